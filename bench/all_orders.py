@@ -2,7 +2,6 @@
 """Compares `radixvm audit --overlapping` with a search of all orders, on short random histories of calls that overlap. Half of them have an order, by a
 simulator that makes them; in the others one reply was changed, so that some have none. The program has to call a history legal where an order exists, and
 must never do so where none does; what it calls legal is judged again by the order that it writes. It may tell that there is none only where that is so.
-Each is judged by pages, too: there each call on a range is replaced by calls of its pages before the search, and half of the histories are made so.
 Usage: bench/all_orders.py [HISTORIES [SEED]], 400 and 0 where left out; RADIXVM_PROGRAM names the program."""
 import collections
 import os
@@ -34,28 +33,6 @@ def again(plain):
         after.files.append(File(file.mode, file.length, file.seed))
         after.files[-1].changed = dict(file.changed)
     return after
-
-
-def of_page(words, at):
-    """The words of a call for one of its pages alone."""
-    first = [words[0], hex(int(words[1], 0) + at * PAGE), str(PAGE), *words[3:]]
-    return [*first[:6], hex(int(first[6], 0) + at * PAGE)] if len(first) == 7 else first
-
-
-def by_pages(calls):
-    """The history by pages: a call for each page of one on a range that was done, or that may have protected some before it was refused."""
-    split = []
-    for call in calls:
-        count = int(call.words[2], 0) // PAGE if call.words[0] in ("mmap", "munmap", "mprotect") else 0
-        is_done = count > 0 and call.reply == (call.words[1] if call.words[0] == "mmap" else "done")
-        was_refused = count > 1 and call.words[0] == "mprotect" and call.reply in ("enomem", "eacces")
-        if not is_done:
-            split.append(call)
-        if is_done or was_refused:
-            for at in range(count):
-                words = of_page(call.words, at)
-                split.append(call._replace(words=words, reply=words[1] if words[0] == "mmap" else "done", sure=is_done))
-    return split
 
 
 def copies(plain, words):
@@ -154,18 +131,8 @@ def start():
     return plain
 
 
-def changes_page(choose, plain, core, words, left):
-    """A call on a range changes one more of its pages, of those that are left; its reply once it has one."""
-    page = of_page(words, left.pop(choose.randrange(len(left))))
-    due, change = getattr(plain, words[0])(core, "", *arguments(page[1:]))
-    acts(plain, change)
-    if due == "enomem":
-        return due
-    return None if left else words[1] if words[0] == "mmap" else due
-
-
-def history(choose, is_by_pages):
-    """Calls of busy threads, each of which takes effect between its begin and its end, at one moment or by pages; a store may copy its page before."""
+def history(choose):
+    """Calls of busy threads, each of which takes effect between its begin and its end, at one moment; a store may copy its page before."""
     plain, clock, made, calls = start(), 0, 0, []
     threads, most = choose.randint(2, 4), choose.randint(4, 9)
     under = [None] * threads
@@ -175,15 +142,12 @@ def history(choose, is_by_pages):
         if under[core] is None:
             if made < most:
                 words = request(choose)
-                left = list(range(int(words[2], 0) // PAGE)) if is_by_pages and words[0] in ("mmap", "munmap", "mprotect") else []
-                under[core], made = [clock, words, None, left], made + 1
+                under[core], made = [clock, words, None], made + 1
             continue
-        begin, words, reply, left = under[core]
+        begin, words, reply = under[core]
         if reply is not None:
             calls.append(Call(begin, clock, core, words, reply))
             under[core] = None
-        elif left:
-            under[core][2] = changes_page(choose, plain, core, words, left)
         elif choose.random() < 0.3:
             plain = copies(plain, words) or plain
         else:
@@ -216,7 +180,7 @@ def judged(calls, folder, flags):
             is_legal &= given.returncode == 0
         if not is_legal or told.stdout != f"legal {len(calls)}\n":
             sys.exit(f"the order of this history isn't legal: {told.stdout}{alone.stdout}{alone.stderr}\n{text}")
-    if told.returncode not in (0, 1, 3):
+    if told.returncode not in (0, 1, 4):
         sys.exit(f"{told.stdout}{told.stderr}\n{text}")
     return told.returncode, text
 
@@ -228,7 +192,7 @@ class Counts:
         self.flags, self.some, self.none, self.undecided, self.shown = flags, 0, 0, 0, 0
 
     def judge(self, name, calls, has_one, folder):
-        exists, (status, text) = has_order(start(), by_pages(calls) if self.flags else calls), judged(calls, folder, self.flags)
+        exists, (status, text) = has_order(start(), calls), judged(calls, folder, self.flags)
         if has_one and not exists:
             sys.exit(f"the search of all orders misses the simulator's own\n{text}")
         if status == 0 and not exists:
@@ -247,20 +211,17 @@ class Counts:
 
 def main():
     count, seed = (int(sys.argv[at]) if len(sys.argv) > at else usual for at, usual in ((1, 400), (2, 0)))
-    whole, pages = Counts([]), Counts(["--by-pages"])
+    whole = Counts([])
     with tempfile.TemporaryDirectory() as folder:
         for number in range(count):
             choose = random.Random(f"{seed} {number}")
-            is_by_pages = number % 4 >= 2
-            calls = history(choose, is_by_pages)
+            calls = history(choose)
             if number % 2:
                 calls = changed(choose, calls)
             name = f"history {number} of seed {seed}"
-            whole.judge(name, calls, not number % 2 and not is_by_pages, folder)
-            pages.judge(f"{name}, by pages,", calls, not number % 2, folder)
+            whole.judge(name, calls, not number % 2, folder)
     whole.tell()
-    pages.tell()
-    sys.exit(whole.undecided + pages.undecided != 0)
+    sys.exit(whole.undecided != 0)
 
 
 if __name__ == "__main__":

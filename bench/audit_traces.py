@@ -43,9 +43,9 @@ def line(rng, cores):
 
 
 def run(words, text):
-    ran = subprocess.run([PROGRAM, *words], input=text, capture_output=True, text=True, timeout=120)
+    ran = subprocess.run([PROGRAM, *words, "--brief"], input=text, capture_output=True, text=True, timeout=120)
     # of an illegal or an undecided reply standard error shows the request
-    if ran.returncode not in (0, 1, 3) or (ran.stderr and ran.returncode == 0):
+    if ran.returncode not in (0, 1, 4) or (ran.stderr and ran.returncode == 0):
         sys.exit(f"{' '.join(words)}: {ran.returncode} {ran.stderr}")
     return ran.stdout.splitlines()
 

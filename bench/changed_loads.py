@@ -2,7 +2,7 @@
 """Judges long histories of calls that overlap, in each of which one load's byte was changed to one that nobody stored, by
 `radixvm audit --overlapping`: each has no order, and has to be told so, with no more than a few lines.
 Usage: bench/changed_loads.py [CALLS [HISTORIES]], 400000 and 30 where left out; RADIXVM_PROGRAM names the program. THREADS is 4 where it isn't given, and
-PAGES 8; with FILES=1 half of the mappings are of a file. RULE is one more word of `audit`, as --loose."""
+PAGES 8; with FILES=1 half of the mappings are of a file. RULE is one more word of `audit`, as --kernel."""
 import collections
 import os
 import random

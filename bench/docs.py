@@ -3,8 +3,9 @@
 whose function isn't, a clause that no contract named before it has, a function that a walk names in another module, a word of code that stands
 nowhere in the sources, a command whose word, option or file isn't there, a reply beside README's first trace that isn't the program's, C or Rust
 that no compiler takes, a crate or a document that is left out, nine words in a row that stand in two documents, a sentence of more than 30 words
-or that begins with "Of", a word of ours where the field or plain English has another (`OURS`), a document over its budget, more than 72,000 bytes
-in README.md and docs/*.md, or such a word in the help's texts. It runs `./radixvm help` for each topic that is named and, where the program is built (or
+or that begins with "Of", a word of ours where the field or plain English has another (`OURS`), a document over its budget, or more than 72,000 bytes
+in README.md and docs/*.md. Such words and long sentences it also finds in all else that users read: the help, headers, bindings, examples, the
+messages of the launcher. It runs `./radixvm help` for each topic that is named and, where the program is built (or
 RADIXVM_PROGRAM names it), each command of it whose files are there. It ends with status 1 where it tells anything.
 Usage: bench/docs.py"""
 import functools
@@ -35,12 +36,12 @@ OURS = {
 # Bytes that a document may have; together they have at most MOST_BYTES.
 MOST_BYTES = 72_000
 BUDGETS = {
-    "README.md": 9_500,
+    "README.md": 9_700,
     "docs/ARCHITECTURE.md": 5_000,
     "docs/COMPARISON.md": 3_000,
-    "docs/CONTRIBUTING.md": 8_700,
+    "docs/CONTRIBUTING.md": 7_600,
     "docs/DECISIONS.md": 7_000,
-    "docs/FAQ.md": 4_000,
+    "docs/FAQ.md": 4_500,
     "docs/GLOSSARY.md": 4_000,
     "docs/GUARANTEES.md": 23_600,
     "docs/SPEED.md": 7_000,
@@ -190,17 +191,27 @@ def commands(text):
                 yield span
 
 
+@functools.cache
+def help_of(*words):
+    return subprocess.run(["./radixvm", "help", *words], cwd=ROOT, capture_output=True, text=True, check=True).stdout
+
+
 def usage():
     """The options of each command of the program, as its help has them."""
-    def help_of(*words):
-        return subprocess.run(["./radixvm", "help", *words], cwd=ROOT, capture_output=True, text=True, check=True).stdout
-
     listed = help_of().split("\nCommands:\n")[1].split("\n\n")[0]
     options = {"help": {"--help"}}
     for command in set(re.findall(r"^  (\w+) ", listed, re.M)) - {"help"}:
         said = help_of(command).split("\nUsage: ")[1].split("\n\n")[0]
         options[command] = {"--help", *re.findall(r"--[a-z-]+", said)}
     return options
+
+
+def head_faults(options):
+    """Heads that the help of a command lacks."""
+    for command in options.keys() - {"help"}:
+        for head in ("Usage: ", "Options:\n", "Example", "Status: "):
+            if f"\n{head}" not in help_of(command):
+                yield f"help {command} has no {head.strip()}"
 
 
 @functools.cache
@@ -278,7 +289,7 @@ def rust_faults(text):
         with open(f"{folder}/Cargo.toml", "w") as file:
             file.write(f'[package]\nname = "said"\nversion = "0.1.0"\nedition = "2021"\n[dependencies]\nradixvm = {{ path = "{ROOT}/bindings/rust" }}\n')
         with open(f"{folder}/src/main.rs", "w") as file:
-            file.write("fn main() -> Result<(), radixvm::Stopped> {\n" + "\n".join(lines) + "\nlet _ = told;\nOk(())\n}\n")
+            file.write("fn main() -> Result<(), radixvm::Stopped> {\n" + "\n".join(lines) + "\nlet _ = replies;\nOk(())\n}\n")
         done = subprocess.run(["cargo", "check", "--offline", "-q"], cwd=folder, capture_output=True, text=True)
     if done.returncode or not lines:
         yield f"the Rust isn't taken: {done.stderr[:300]}"
@@ -296,6 +307,17 @@ def whole_faults():
             yield f"README.md doesn't name {document}"
 
 
+def version_faults():
+    """What `--version` says of the header and of the kit, where that isn't what the header and README say."""
+    said = re.search(r'VERSION_TEXT: &str = "(.*)";', read("crates/word_help/src/lib.rt"))
+    if said:
+        header = re.search(r"#define RADIXVM_VERSION (\d+)", read("include/radixvm.h"))[1]
+        kit = re.search(r"Proved with `([^`]+)`", read("README.md"))[1]
+        for part in (f"header {header},", kit):
+            if part not in said[1]:
+                yield f"--version doesn't say {part}"
+
+
 def repeat_faults():
     """Nine words in a row that stand in two documents: each fact has one place."""
     places = {}
@@ -307,31 +329,90 @@ def repeat_faults():
         places.update(dict.fromkeys(here, document))
 
 
+def words_faults(block):
+    """Words that the field or plain English says otherwise. What the program writes itself, as `told N of M`, is left out."""
+    plain = re.sub(r"`[^`]*`|\([^ )]*\)|\btold N of M\b", "`", block)
+    for word, other in OURS.items():
+        if re.search(rf"\b{word}\b", plain, re.I):
+            yield f"'{word}', which is {other}: {block[:90]}.."
+
+
+def length_faults(block):
+    """Sentences with too many words."""
+    for sentence in re.split(r"(?<=[.:;!?])\s+", block):
+        if len(sentence.split()) > MOST_WORDS:
+            yield f"{len(sentence.split())} words in a sentence: {sentence[:90]}.."
+
+
 def style_faults(text):
-    """Of sentences: their length, how they begin, and words that the field or plain English says otherwise."""
+    """Of sentences: their length, how they begin, and words of ours."""
     for block in blocks(re.sub(r"```.*?```", "", text, flags=re.S)):
         if block.startswith("    "):
             continue
-        plain = re.sub(r"`[^`]*`|\([^ )]*\)", "`", block)
-        for word, other in OURS.items():
-            if re.search(rf"\b{word}\b", plain, re.I):
-                yield f"'{word}', which is {other}: {block[:90]}.."
+        yield from words_faults(block)
         if block.startswith("|"):
             continue
+        yield from length_faults(block)
         for sentence in re.split(r"(?<=[.:;!?])\s+", block):
-            if len(sentence.split()) > MOST_WORDS:
-                yield f"{len(sentence.split())} words in a sentence: {sentence[:90]}.."
             if re.match(r"(- )?(\*\*)?Of [a-z]", sentence):
                 yield f"a sentence that begins with Of: {sentence[:90]}.."
 
 
-def help_faults():
-    """What the help's texts say with words of ours. What the program writes itself, as `told N of M`, is left out."""
-    for path in sorted(glob.glob(f"{ROOT}/crates/word_help/src/*.rt")):
-        for name, text in re.findall(r'^pub const (\w+): &str = "\\\n(.*?)\n?";$', open(path, encoding="utf-8").read(), re.M | re.S):
-            for word, other in OURS.items():
-                if re.search(rf"\b{word}\b(?! N of M)", text, re.I):
-                    yield f"help, {name}: '{word}', which is {other}"
+# ---- all else that users read
+
+# How the comments of a file's language begin: those of C are found by their two ends.
+LINES = {".rs": r"\s*//[/!] ?", ".py": r"\s*# ?", ".sh": r"\s*# ?", ".trace": "# ?", ".litmus": "# ?", ".script": "# ?", ".replies": "# ?", "": r"\s*# ?"}
+READ = [
+    "CHANGES.md", "examples/*/README.md", "include/*.h", "bindings/*.c", "bindings/rust/src/*.rs", "bindings/rust/build.rs", "radixvm",
+    *[f"examples/{folder}*{end}" for folder in ("", "*/") for end in (".c", ".h", ".py", ".sh", ".trace", ".litmus", ".script", ".replies")],
+]
+
+
+def comments(path, text):
+    """The comments of a file, without what marks them and without its lines of code."""
+    if path.endswith((".c", ".h")):
+        return ["\n".join(re.sub(r"^ *\* ?", "", line) for line in found.split("\n")) for found in re.findall(r"/\*(.*?)\*/", text, re.S)]
+    mark, found = LINES[os.path.splitext(path)[1]], [[]]
+    for line in text.split("\n"):
+        if re.match(mark, line) and not line.startswith("#!"):
+            found[-1].append(re.sub(mark, "", line, count=1))
+        elif found[-1]:
+            found.append([])
+    return ["\n".join(lines) for lines in found] + re.findall(r'"""(.*?)"""', text, re.S)
+
+
+def said_of_users():
+    """What users read besides the documents: where it is, and its text."""
+    for path in sorted(path for name in READ for path in glob.glob(name, root_dir=ROOT)):
+        text = read(path)
+        for said in [text] if path.endswith(".md") else comments(path, text):
+            yield path, re.sub(r"```.*?```", "", said, flags=re.S)
+    for path in sorted(glob.glob("crates/word_help/src/*.rt", root_dir=ROOT)):
+        for name, text in re.findall(r'^pub const (\w+): &str = "\\\n(.*?)\n?";$', read(path), re.M | re.S):
+            if name != "USAGE":
+                yield f"help, {name}", re.sub(r"^ +printf .*?\| radixvm.*?$", "", text, flags=re.M | re.S)
+
+
+def paragraphs(text):
+    """Paragraphs, items of lists, and rows of tables, without commands and other lines of code."""
+    found = [[]]
+    for line in text.split("\n"):
+        if not line.strip() or re.match(r" {4,}\S", line) and not found[-1]:
+            found.append([])
+        elif re.match(r"\s*(- |\||\d+\. )|\s+\S.*\S {2,}\S| {2}\S", line):
+            found.append([line.strip()])
+        else:
+            found[-1].append(line.strip())
+    return [" ".join(lines) for lines in found if lines]
+
+
+def other_faults():
+    """Words of ours, and long sentences, in what users read besides the documents."""
+    for where, text in said_of_users():
+        for block in paragraphs(text):
+            is_said = not block.startswith("|")
+            for fault in [*words_faults(block), *(length_faults(re.sub(r"\([^)]*\)", "", block)) if is_said else [])]:
+                yield f"{where}: {fault}"
 
 
 def budget_faults():
@@ -358,7 +439,7 @@ def main():
         for fault in faults:
             print(f"{document}: {fault}")
         count += len(faults)
-    for fault in [*whole_faults(), *repeat_faults(), *help_faults(), *budget_faults()]:
+    for fault in [*whole_faults(), *head_faults(options), *version_faults(), *repeat_faults(), *other_faults(), *budget_faults()]:
         print(fault)
         count += 1
     sys.exit(1 if count else 0)

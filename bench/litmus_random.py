@@ -21,7 +21,7 @@ HEAD = f"vm 4 256\nfile 0 rw {FILE} 195\n"
 
 
 def run(words, text):
-    return subprocess.run([PROGRAM, *words], input=text, capture_output=True, text=True, check=False)
+    return subprocess.run([PROGRAM, *words, "--brief"], input=text, capture_output=True, text=True, check=False)
 
 
 def placed(choose):

@@ -92,7 +92,7 @@ class Page:
     def __init__(self, driver, trace, folder):
         self.driver, self.trace, self.states, self.logs = driver, trace, {0: ["epoch 0"]}, {}
         self.text = trace.read_text()
-        written = run("page", str(trace))
+        written = run("html", str(trace))
         if written.returncode:
             sys.exit(f"bench/page_test.py: {trace}: {written.stderr}")
         self.file = folder / (trace.stem + ".html")
@@ -238,8 +238,8 @@ def main():
             driver.quit()
         bad = folder / "bad.trace"
         bad.write_text(HTML + "c0! nonsense\n")
-        told = run("page", str(bad))
-        assert (told.stdout, told.returncode) == ("", 2) and "line 5" in told.stderr, told
+        told = run("html", str(bad))
+        assert (told.stdout, told.returncode) == ("", 2) and ":5:" in told.stderr, told
     print("all pages show the states")
 
 

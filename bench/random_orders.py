@@ -143,7 +143,7 @@ def main():
         words, text = ["--any-place"] if shape.any_place else [], "\n".join(head + lines) + "\n"
         start = time.time()
         done = subprocess.run([PROGRAM, "audit", "--overlapping", *words], input=text, capture_output=True, text=True)
-        if done.returncode not in (0, 3):
+        if done.returncode not in (0, 4):
             sys.exit(f"{done.stdout}{done.stderr}\n{text}")
         told[done.returncode] += 1
         if done.returncode:

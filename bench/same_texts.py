@@ -17,7 +17,7 @@ ONE, OTHER = sys.argv[1:3]
 TRACES = int(sys.argv[3]) if len(sys.argv) > 3 else 300
 SEED = int(sys.argv[4]) if len(sys.argv) > 4 else 0
 PAGES = [0x10000, 0x11000, 0x12000, 0x13000, 0x1FF000, 0x200000, 0x8000000000, 0x8000001000, 0x10000000000]
-REPLAYS = [["run"], ["run", "--log"], ["run", "--echo"], ["run", "--explain"], ["run", "--summary"], ["maps"], ["picture"], ["picture", "--steps"], ["picture", "--lives"]]
+REPLAYS = [["run"], ["run", "--log"], ["run", "--echo"], ["run", "--brief"], ["run", "--summary"], ["maps"], ["picture"], ["picture", "--steps"], ["picture", "--lives"]]
 
 
 def request(rng, files):

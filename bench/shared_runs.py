@@ -1,5 +1,5 @@
 #!/usr/bin/env python3
-"""Random scripts, run by `live --shared`: of each core the lines of what it was told have to be the script's calls, in their order, and the
+"""Random scripts, run by `live --one-machine`: of each core the lines of what it was told have to be the script's calls, in their order, and the
 log's lines of that core; where no reply is that no frame was free, `audit --any-place` has to find the log legal, and so has
 bench/plain_map.py. Beside them the scripts that are named.
 Usage: shared_runs.py PROGRAM SCRIPTS [SEED [SCRIPT..]]"""
@@ -39,7 +39,7 @@ def calls_of(core, lines):
 def check(name, lines):
     """Runs a script, and compares what came out. Answers how many calls it has, and whether cores took turns."""
     cores = int(next(line for line in lines if line.startswith("vm ")).split()[1])
-    out = run(["live", "--shared"], "\n".join(lines) + "\n")
+    out = run(["live", "--one-machine"], "\n".join(lines) + "\n")
     told = [line[2:] for line in out if line.startswith("# ")]
     rest = [line for line in out if not line.startswith("# ")]
     log = [line for line in rest if "! " in line]

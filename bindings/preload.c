@@ -1,7 +1,7 @@
 /* Records the calls of mmap, munmap and mprotect that a program makes, of all its threads, without a change to the program:
    cc -O2 -fPIC -shared -ftls-model=initial-exec -I include -o libradixvm-record.so bindings/preload.c
    LD_PRELOAD=$PWD/libradixvm-record.so RADIXVM_RECORD=calls PROGRAM; radixvm-record calls.PID | radixvm audit --overlapping --any-place
-   Each process writes a file of its own, RADIXVM_RECORD with .PID behind it; .PID.2 and so on where that is there, as after an exec. The file is
+   Each process writes a file of its own, RADIXVM_RECORD followed by .PID; .PID.2 and so on where that is there, as after an exec. The file is
    mapped shared, so what was recorded stays when the program is killed.
    It sees what goes through the C library's names. What the library maps for itself (malloc, the stacks of threads, dlopen) and what a
    program asks by system calls of its own isn't seen: so an mprotect of such pages isn't judged. All mappings are recorded as of no file.

@@ -2,8 +2,8 @@
    program that was killed, or bindings/preload.c, whose histories want --any-place.
    cc -O2 -I include -o radixvm-record bindings/radixvm-record.c; radixvm-record FILE | radixvm audit --overlapping --any-place
    Calls that were under way at the end may have taken effect or not. A load or a fetch changes nothing and becomes a comment. An munmap, or an
-   mmap at a fixed place, is given an end behind all others: if it didn't take effect before, then there. Where one is a store, or
-   another mmap, or an mprotect, the text has a line for each begin and end, in the order of the stamps, and these calls have no end.
+   mmap at a fixed place, is given an end after all others: if it didn't take effect before, then there. If one is a store, or
+   another mmap, or an mprotect, these calls have no end: the text has a line for each begin and end, in the order of the stamps.
    The preload recorder doesn't see what the C library maps for itself. So an mprotect of pages that no call in the history has mapped
    becomes a comment, and all its files are anonymous. Status 0; 2 for wrong words or files; 3 where memory or a write failed. */
 #ifndef _GNU_SOURCE
@@ -93,7 +93,7 @@ static int is_valid(const struct rv_call *call) {
     return call->length && !(call->address % RV_PAGE) && call->address && !rv_reaches_past(call->address, call->length);
 }
 
-/* Whether an open call changes the same when it has an end behind all others, and is done there: it has no other reply there. */
+/* Whether an open call changes the same when it has an end after all others, and is done there: it has no other reply there. */
 static int can_be_last(const struct rv_call *call) {
     unsigned flags = call->flags & (RV_FIXED | RV_ANONYMOUS), types = call->flags & (RV_PRIVATE | RV_SHARED);
     if (!is_valid(call)) return 0;
@@ -126,7 +126,7 @@ static void take_calls(void) {
 
 /* ---- which pages the calls of a partial record have mapped */
 
-/* The first range that ends behind the address. */
+/* The first range that ends after the address. */
 static size_t find(const struct ranges *ranges, uint64_t address) {
     size_t low = 0, high = ranges->count;
     while (low < high) {

@@ -1,8 +1,7 @@
 #!/usr/bin/env bash
 # Compiles the header and the examples of bindings/ over libradixvm.a (`./radixvm --build-library`), the C side with the
-# sanitizers of addresses and of undefined behaviour, by gcc and by clang, and runs them: a page-table walker beside batches and beside a
-# machine that is kept, kept machines beside batches, logs beside what was told, a shadow checker with and without a bug, what is out of
-# range and memory that is refused, entries that change as told, cores whose MMU obeys the library (random ones, examples/mmu, and
+# sanitizers of addresses and of undefined behaviour, by gcc and by clang, and runs them: a page-table walker, whose entries the library tells,
+# beside batches, kept machines beside batches, logs beside what was told, what is out of range and memory that is refused, entries that change as told, cores whose MMU obeys the library (random ones, examples/mmu, and
 # examples/kernel-on-radixvm where QEMU is),
 # how much stack a call takes, the worked rows of crates/test_words, examples/, random traces and their logs beside the program where it
 # is built, and the Rust crate's tests and its walkers where there is cargo. 1 to 64 threads share a machine: each one's notes beside the log,
@@ -64,11 +63,10 @@ walk() { # NAME
 
 try_with() { # COMPILER
     echo "-- C programs by $1"
-    for name in walker beside kept log shadow bad trace seats threads outside driven; do compile "$1" $name $name; done
+    for name in walker kept log bad trace seats threads outside driven; do compile "$1" $name $name; done
     compile "$1" bad refused -DREFUSE -Wno-pedantic -Wl,--wrap=malloc,--wrap=realloc
     compile "$1" refused_threads refused_threads -Wno-pedantic -Wl,--wrap=malloc,--wrap=realloc
     walk walker
-    walk beside
     walk kept
     walk log
     walk outside
@@ -80,13 +78,6 @@ try_with() { # COMPILER
         fi
     done
     echo "outside: each of 3 errors of a handler was found"
-    "$work/shadow"
-    if "$work/shadow" bug > "$work/out"; then
-        echo "bindings/test.sh: the shadow checker didn't find the bug" >&2
-        exit 1
-    fi
-    diff "$top/bindings/c/shadow_bug.out" "$work/out"
-    echo "shadow: the bug was found, with the mappings around it"
     echo "out of range: $("$work/bad")"
     "$work/refused"
     "$work/seats"

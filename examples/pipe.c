@@ -1,4 +1,4 @@
-/* The built program behind two pipes: a line in, its reply out, and many lines at once. Run it at the repository's root:
+/* The built program at the other end of two pipes: a line in, its reply out, and many lines at once. Run it at the repository's root:
    cc -o /tmp/pipe examples/pipe.c && /tmp/pipe */
 #include <stdio.h>
 #include <stdlib.h>

@@ -1,5 +1,5 @@
 #!/usr/bin/env python3
-"""The built program behind a pipe: a line in, its reply out, and many lines at once. Run it at the repository's root."""
+"""The built program at the other end of a pipe: a line in, its reply out, and many lines at once. Run it at the repository's root."""
 
 import subprocess
 

@@ -12,7 +12,7 @@
  *   - radixvm_calls and kept machines: each call or event has the outcome that the abstract machine's steps
  *     give from the state before it. Each state is one that a run reaches, with the log of a plain page map.
  *   - Shared machines, for every schedule: each seat gets the replies of a plain page map, in one order of all
- *     calls. Each seat's calls stand in that order as the seat made them.
+ *     calls. Each seat's calls are in that order as the seat made them.
  *
  * Units: addresses, lengths and offsets are in bytes. A page or a frame has 4096 bytes, and its number is its
  * name (page = address / 4096).
@@ -21,11 +21,10 @@
  * them. It frees what it allocates before it returns, except for kept machines and seats.
  *
  * Frames come back late: a frame that no page has any more is free once its count was 0 for two epochs (Refcache of
- * the RadixVM paper). A program that maps and unmaps needs that, or gets RADIXVM_NO_FRAME. With several cores, let
- * each make RADIXVM_FLUSH until it is RADIXVM_IDLE, then each once more, and then each RADIXVM_REVIEW until it is
- * RADIXVM_IDLE. With one core RADIXVM_FLUSH is never RADIXVM_IDLE, since one that finds no count ends an epoch: make
- * it once for each frame that was unmapped and three times more, and then RADIXVM_REVIEW until it is RADIXVM_IDLE.
- * radixvm_reclaim does that for any number of cores.
+ * the RadixVM paper). A program that maps and unmaps needs that, or gets RADIXVM_NO_FRAME: radixvm_reclaim brings back all
+ * such frames. By hand, let each core make RADIXVM_FLUSH until it is RADIXVM_IDLE, then each once more, and then each
+ * RADIXVM_REVIEW until it is RADIXVM_IDLE. With one core RADIXVM_FLUSH is never RADIXVM_IDLE, since one that finds no count
+ * ends an epoch.
  *
  * Kernels: libradixvm-kernel.a is the same library for code without a C library. It uses no register of floating point, MMX
  * or SSE, and no red zone. Its names are those of the functions below that aren't inline. It calls memcpy, memmove, memset and
@@ -98,7 +97,7 @@ enum { /* The kinds. The first six begin a call. */
     RADIXVM_FLUSH,    /* the core flushes one count, or ends its part of the epoch */
     RADIXVM_REVIEW,   /* the core reviews the front of its queue */
     RADIXVM_FOLD,     /* at: the page at which slots are joined */
-    RADIXVM_GIVE_UP,  /* the core gives its call up for want of memory */
+    RADIXVM_GIVE_UP,  /* the core's call is cancelled, as if memory were short */
     RADIXVM_FINISH,   /* radixvm_calls only: the core's call goes on until it ends or waits */
     RADIXVM_BEGIN = 64 /* radixvm_calls only: added to a kind, it asks for one step, as in radixvm_run */
 };
@@ -108,7 +107,7 @@ enum { RADIXVM_MAP_SHARED = 1, RADIXVM_MAP_PRIVATE = 2, RADIXVM_MAP_FIXED = 16, 
 /* The outcome of an event. */
 typedef struct {
     uint32_t kind;
-    uint64_t value; /* what it means stands below; otherwise 0 */
+    uint64_t value; /* its meaning is below, at the kinds that have one; otherwise 0 */
 } radixvm_outcome;
 enum { /* The kinds of outcomes. RADIXVM_MAPPED to RADIXVM_NO_MEMORY are replies. */
     RADIXVM_STEPPED = 1,
@@ -124,7 +123,7 @@ enum { /* The kinds of outcomes. RADIXVM_MAPPED to RADIXVM_NO_MEMORY are replies
     RADIXVM_SEGV_ACCERR, /* SIGSEGV: the protection forbids it */
     RADIXVM_BUS,         /* SIGBUS: past the end of the file */
     RADIXVM_NO_FRAME,    /* no frame was free */
-    RADIXVM_NO_MEMORY,   /* the call was given up */
+    RADIXVM_NO_MEMORY,   /* the call was cancelled: by RADIXVM_GIVE_UP, or since a seat was refused memory */
     RADIXVM_STUCK        /* radixvm_calls only: 2^40 steps were made, and the call hasn't ended */
 };
 enum { RADIXVM_EBADF = 9, RADIXVM_ENOMEM = 12, RADIXVM_EACCES = 13, RADIXVM_EINVAL = 22, RADIXVM_EOVERFLOW = 75 };
@@ -190,7 +189,8 @@ enum {
 };
 
 /* How a batch ended. The first `count` events were taken, and outcomes[0] to outcomes[count - 1] are theirs; all
- * other outcomes are unchanged. With RADIXVM_NO_ROOM or a later status, except RADIXVM_AT_LIMIT, no event was taken. */
+ * other outcomes are unchanged. No event was taken, unless the status is RADIXVM_OK, RADIXVM_BAD_EVENT,
+ * RADIXVM_OUT_OF_MEMORY or RADIXVM_AT_LIMIT. */
 typedef struct {
     uint32_t status;
     uint64_t count;
@@ -212,7 +212,7 @@ enum {
     RADIXVM_BUSY,          /* another seat is in a call */
     RADIXVM_IN_FLIGHT,     /* a core of the machine has a call that hasn't ended */
     RADIXVM_LOST,          /* a seat was freed inside its call, which is forbidden, and the machine is gone with it */
-    RADIXVM_AT_LIMIT       /* radixvm_seat_calls only: the limit of calls or of events is reached */
+    RADIXVM_AT_LIMIT       /* radixvm_seat_calls: the limit of calls or of events is reached. radixvm_reclaim: below */
 };
 
 #ifdef __cplusplus
@@ -283,6 +283,7 @@ uint32_t radixvm_change_held(radixvm_machine *machine, const radixvm_event *even
 uint32_t radixvm_go_on_held(radixvm_machine *machine, uint32_t core, radixvm_outcome *outcome, radixvm_filled *filled,
     radixvm_drop *own);
 uint32_t radixvm_take_held(radixvm_machine *machine, uint32_t core, radixvm_drop *drop);
+uint32_t radixvm_reclaim_held(radixvm_machine *machine, uint64_t *frames);
 
 /* Makes a machine in an empty place, and copies the bytes of the files. With a log, it takes the memory of the
  * whole log at once: about 100 bytes for each call that may begin. */
@@ -364,7 +365,7 @@ static inline radixvm_done radixvm_maps(const radixvm_machine *machine, radixvm_
     return radixvm_maps_held((radixvm_machine *)machine, lines ? lines : &no_line, room);
 }
 /* Writes the log from its first entry on, as many entries as there is room for. `count` is how many there are.
- * Each answered call stands in it once, in the order in which a plain page map gives these replies. */
+ * Each answered call is in it once, in the order in which a plain page map gives these replies. */
 static inline radixvm_done radixvm_log(const radixvm_machine *machine, radixvm_log_entry *entries, size_t room) {
     radixvm_log_entry no_entry = {0, 0, 0, 0, 0, {0, 0, 0, 0, 0, 0, 0, 0, 0}, {0, 0}};
     if (!machine || (!entries && room)) {
@@ -376,7 +377,7 @@ static inline radixvm_done radixvm_log(const radixvm_machine *machine, radixvm_l
 
 /* ---- A real MMU: your page tables, or a TLB of your own, do the accesses, and a kept machine decides what they may
  * translate. Frame f of the machine is a page of your memory, number f, which has the bytes. The machine's own bytes stay
- * 0: it is told of faults, and not of accesses.
+ * 0: it hears of page faults, and not of accesses.
  *
  * A core's loop:
  *   - Page fault: lock; radixvm_touch. RADIXVM_DONE or RADIXVM_BYTE: drop the page's old translation, make the fill,
@@ -392,15 +393,16 @@ static inline radixvm_done radixvm_log(const radixvm_machine *machine, radixvm_l
  * that core that tells RADIXVM_DROP_TABLES drops it. No other call changes it, and none of another core does.
  *
  * If you do your duties, each access of each core has the reply of a plain page map (POSIX.1-2017 mmap, munmap, mprotect) at
- * its moment, with its core's waiting stores made. Proved are the law of hardware, driven_runs_are_plain of crates/real_mmu,
- * and of each call below that it makes steps of the machine, and writes all that they drop and fill as that law has it
- * (crates/radixvm_c/src/tables.rt). That a program's calls together are a run of the law isn't one theorem, and that your
- * code does its duties is proved nowhere. They are, by number, in the words of Intel SDM volume 3A:
+ * its moment, with its core's waiting stores made. That is one theorem, calls_are_driven of crates/driven. It takes all calls that
+ * returned, in the order of your lock, and what your handler, processors and programs do between them. They are a run of the
+ * law of hardware, driven_runs_are_plain of crates/real_mmu. What each call writes is the contract of its function
+ * (crates/radixvm_c/src/tables.rt). Duties 1 to 4 and 10 are premises of the theorem, and 5 to 9 say what its processors are.
+ * That your code does its duties is proved nowhere. They are, by number, in the words of Intel SDM volume 3A:
  *   1. One lock is held over each call of the library on this machine, and from a touch until its fill is made and its word is
  *      installed. It is taken by a locked instruction, which empties the core's store buffer (8.2.2).
  *   2. Core c's paging-structure entry of a page is made present by core c alone, as `word` tells it, in the locked section of
- *      that touch. Between a take that tells RADIXVM_DROP_TABLES and its next take the core clears the entries of the range, each
- *      by one 8-byte store, and then invalidates them by INVLPG or MOV to CR3 (4.10.4.1). INVLPG is for the current PCID alone.
+ *      that touch. After a take that tells RADIXVM_DROP_TABLES the core clears the entries of the range, each by one 8-byte
+ *      store, and then invalidates them by INVLPG or MOV to CR3 (4.10.4.1). Both are done before its next take. INVLPG is for the current PCID alone.
  *   3. After its own change or copy a core runs no instruction of its program until it has cleared and invalidated `own`, or
  *      the page of its touch. Its handlers make no access by the program's translations.
  *   4. A fill is made before the word is installed. A fill by non-temporal stores ends with SFENCE.
@@ -431,7 +433,7 @@ static inline uint32_t radixvm_touch(radixvm_machine *machine, uint32_t core, ui
     return radixvm_touch_held(machine, core, at, kind, outcome, filled);
 }
 /* A call RADIXVM_MMAP, RADIXVM_MUNMAP or RADIXVM_MPROTECT of event->core, until it ends or waits. `own` is RADIXVM_DROP_OWN
- * where the call dropped its own core's translations, and otherwise RADIXVM_DROP_NONE. It is told once: here, or by the
+ * where the call dropped its own core's translations, and otherwise RADIXVM_DROP_NONE. It is given once: here, or by the
  * radixvm_go_on that does it. It is written with RADIXVM_OUT_OF_MEMORY too. Other statuses as above. */
 static inline uint32_t radixvm_change(radixvm_machine *machine, const radixvm_event *event, radixvm_outcome *outcome,
     radixvm_drop *own) {
@@ -445,52 +447,28 @@ static inline uint32_t radixvm_go_on(radixvm_machine *machine, uint32_t core, ra
     if (!machine || !outcome || !filled || !own) return RADIXVM_NULL;
     return radixvm_go_on_held(machine, core, outcome, filled, own);
 }
-/* The core does what the oldest message of its inbox asks, as by RADIXVM_TAKE. Each message is told twice: as
+/* The core does what the oldest message of its inbox asks, as by RADIXVM_TAKE. Each message is given twice: as
  * RADIXVM_DROP_TABLES, and then, by the take that acknowledges it, as RADIXVM_DROP_TLB. RADIXVM_DROP_NONE: there is none. */
 static inline uint32_t radixvm_take(radixvm_machine *machine, uint32_t core, radixvm_drop *drop) {
     if (!machine || !drop) return RADIXVM_NULL;
     return radixvm_take_held(machine, core, drop);
 }
-/* Brings back frames that no page has any more: rounds over all cores, each of which makes RADIXVM_FLUSH, and then
- * RADIXVM_REVIEW until it is no step, until three rounds review nothing, eight at the most. A round ends an epoch, and a
- * count that became 0 is reviewed two epochs later. `reviews` is how many reviews were made: at least as many as frames
- * came back. Each is a step of the machine; that all free frames are back isn't proved. */
-static inline uint32_t radixvm_reclaim(radixvm_machine *machine, uint64_t *reviews) {
-    radixvm_event event = {0, 0, 0, 0, 0, 0, 0, 0, 0};
-    radixvm_outcome outcome;
-    uint32_t status = RADIXVM_OK, quiet = 0;
-    if (!machine || !reviews) return RADIXVM_NULL;
-    const uint32_t cores = (uint32_t)radixvm_cores(machine);
-    *reviews = 0;
-    if (!cores) return RADIXVM_EMPTY;
-    for (uint32_t round = 0; round < 8 && quiet < 3; round++) {
-        const uint64_t before = *reviews;
-        event.kind = RADIXVM_FLUSH; /* a core has at most 64 counts to flush, and then ends its part of the epoch */
-        for (event.core = 0; event.core < cores; event.core++)
-            for (uint32_t flush = 0; flush < 65; flush++) {
-                status = radixvm_step(machine, &event, &outcome);
-                if (status != RADIXVM_OK) return status;
-                if (outcome.kind != RADIXVM_STEPPED) break;
-            }
-        event.kind = RADIXVM_REVIEW;
-        for (event.core = 0; event.core < cores; event.core++)
-            for (;;) {
-                status = radixvm_step(machine, &event, &outcome);
-                if (status != RADIXVM_OK) return status;
-                if (outcome.kind != RADIXVM_STEPPED) break;
-                ++*reviews;
-            }
-        quiet = *reviews == before ? quiet + 1 : 0;
-    }
-    return RADIXVM_OK;
+/* Brings back each frame that no page has, that caches no page of a file and that no call has taken. It makes rounds over all
+ * cores: each makes RADIXVM_FLUSH until its part of the epoch is over, and RADIXVM_REVIEW while it can. With RADIXVM_OK each
+ * such frame is free. RADIXVM_AT_LIMIT: eight epochs ended, or 2^40 steps were made, and one isn't free yet; that this never
+ * comes isn't proved. `frames` is how many came back, with both. No page and no log entry changes. RADIXVM_EMPTY: there is no
+ * machine. */
+static inline uint32_t radixvm_reclaim(radixvm_machine *machine, uint64_t *frames) {
+    if (!machine || !frames) return RADIXVM_NULL;
+    return radixvm_reclaim_held(machine, frames);
 }
 
-/* ---- Shared machines. Each thread has a seat, which makes whole calls of one core, beside the other threads.
+/* ---- Shared machines. Each thread has a seat, which makes whole calls of one core, while other threads make theirs.
  * What is proved, for every schedule of any threads: the machine's log is that of a plain page map (POSIX.1-2017
  * mmap, munmap, mprotect). Seats have the machine by turns, in one order; a list of calls is one turn. A seat has
- * seen the first turns and all of its own: just the calls that it made, with the replies that it got. The log need not
+ * seen the first turns and all of its own: exactly the calls that it made, with the replies that it got. The log need not
  * be kept. A call finds the machine busy only where another seat is left, or was freed and not given back.
- * Not proved: that a call ever finds it free beside other seats; that a last seat isn't told of another by RADIXVM_IN_USE.
+ * Not proved: that a call ever finds it free while other seats are left; that a last seat never gets RADIXVM_IN_USE.
  *
  *     radixvm_share(&machine, &seats[0]);
  *     for (i = 1; i < threads; i++) radixvm_seat_split(&seats[0], &seats[i]);
@@ -499,7 +477,7 @@ static inline uint32_t radixvm_reclaim(radixvm_machine *machine, uint64_t *revie
  *     radixvm_unshare(&seats[0], &machine);
  *
  * No function of the library waits. If another seat is in a call, the status is RADIXVM_BUSY, and nothing was done.
- * radixvm_seat_call and radixvm_seat_calls, which stand in this header, try again until it isn't RADIXVM_BUSY. A seat
+ * radixvm_seat_call and radixvm_seat_calls, which are written in this header, try again until it isn't RADIXVM_BUSY. A seat
  * makes one call at a time, and stays in one place. If the status isn't RADIXVM_OK, nothing has changed, with two
  * exceptions: RADIXVM_LOST, and the first `count` calls of a list.
  *
@@ -532,7 +510,7 @@ static inline uint32_t radixvm_seat_split(radixvm_seat *first, radixvm_seat *oth
 /* Makes a whole call of this seat's core: one of the first six kinds. `event->core` isn't read. The outcome is a
  * reply or RADIXVM_FULL. The function itself makes the takes of the cores that the call waits for. If malloc refuses
  * memory, the reply is RADIXVM_NO_MEMORY. So no call is left in flight.
- * It also makes one step beside calls: RADIXVM_WALK, RADIXVM_EVICT, RADIXVM_FLUSH, RADIXVM_REVIEW or RADIXVM_FOLD. Its
+ * It also makes one step that is no call: RADIXVM_WALK, RADIXVM_EVICT, RADIXVM_FLUSH, RADIXVM_REVIEW or RADIXVM_FOLD. Its
  * outcome is RADIXVM_STEPPED, RADIXVM_IDLE or RADIXVM_FULL, and the log is unchanged.
  * RADIXVM_BAD_EVENT: another kind. RADIXVM_BUSY: another seat is in a call. */
 static inline uint32_t radixvm_seat_try(radixvm_seat *seat, const radixvm_event *event, radixvm_outcome *outcome) {
@@ -596,8 +574,8 @@ static inline radixvm_done radixvm_seat_calls(radixvm_seat *seat, const radixvm_
     return done;
 }
 /* Gives the other seat back, and leaves its place empty. Nobody else gets its core. Both must be seats of one machine:
- * the library can't check that. The proof about the log of the machine that radixvm_unshare hands back then covers what
- * the other seat was told. RADIXVM_EMPTY: there is no seat in one of them. RADIXVM_IN_USE: they are one place. */
+ * the library can't check that. The proof about the log of the machine that radixvm_unshare hands back then covers the
+ * replies that the other seat got. RADIXVM_EMPTY: there is no seat in one of them. RADIXVM_IN_USE: they are one place. */
 static inline uint32_t radixvm_seat_return(radixvm_seat *first, radixvm_seat *other) {
     if (first && first == other) return RADIXVM_IN_USE;
     return first && other ? radixvm_return_seat(first, other) : (uint32_t)RADIXVM_NULL;
@@ -625,7 +603,7 @@ static inline const char *radixvm_text(uint32_t status) {
         "there is one already, or the machine has another seat", "no such core or page, or no further core", "the machine keeps no log",
         "not 1 to 64 cores", "more than 65536 frames", "more than 16 files", "a file of more than 1048576 bytes",
         "more calls than may begin", "malloc refused memory to the new machine", "another seat is in a call",
-        "a core has a call that isn't at its end", "the machine is gone with a seat that was freed amid its call",
+        "a core has a call that isn't at its end", "the machine is gone with a seat that was freed during its call",
         "the limit of calls or of events is reached"};
     return status < sizeof texts / sizeof texts[0] ? texts[status] : "unknown status";
 }

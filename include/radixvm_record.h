@@ -19,17 +19,17 @@
  * Stamps. By default they are numbers of one counter that all threads increment. Then nobody has to believe in clocks, and on x86-64
  * and Arm the increment is a fence. With RV_TSC defined they are the processor's time stamps (rdtscp); use it only if those of all
  * processors agree (constant_tsc, nonstop_tsc). When a store instruction ends, its byte may still be in the store buffer, where no
- * other processor sees it. So with RV_TSC a fence stands before a store's end stamp. Without the fence innocent kernels are accused.
+ * other processor sees it. So with RV_TSC a fence is made before a store's end stamp. Without the fence innocent kernels are accused.
  * You may define RV_STAMP() as another clock. It must be a fence, and never go back from one thread to another. On processors that
- * reorder loads a fence also stands between a call and its stamps.
+ * reorder loads a fence is also made between a call and its stamps.
  *
  * Threads that move. A core of a history is a processor. The judge lets no core go back to an old translation, so a thread that moves
  * looks wrong where it isn't. Let each thread call rv_pin. Where one didn't, rv_write says so in a comment.
  *
  * What a plain page map lacks. A call that the kernel refuses by a limit of the process (RLIMIT_AS, RLIMIT_DATA, the number of mappings)
- * is written as `nomemory`, which any kernel may reply. A refusal by an error that the map never gives (EAGAIN, EPERM, EEXIST and others), and
- * one by a protection key, as of a load from execute-only pages, is written as a comment: the judge doesn't read it. rv_write counts
- * these. Look at them: a kernel that refuses so what it should do isn't called wrong.
+ * is written as `nomemory`, which any kernel may reply. Two sorts of refusals are written as comments, which the judge doesn't read: those by
+ * an error that the map never gives (EAGAIN, EPERM, EEXIST and others), and those by a protection key, as of a load from an
+ * execute-only page. rv_write counts these. Look at them: a kernel that refuses so what it should do isn't called wrong.
  *
  * A full ring ends the record, for all threads. A judge needs every call from the first on, since recorded calls can see the effect of
  * one that isn't recorded. So the calls that are being recorded end first, and then further calls are made and not recorded. rv_write
@@ -40,7 +40,8 @@
  * of the head are kept by rv_say. If the kernel dies, the file is there only if its pages are: on a disk that the host caches, on virtiofs
  * or pmem. Without files rv_place puts a ring into memory of yours, and radixvm-record reads a copy of that memory.
  *
- * Without signals (in a unikernel, a simulator, or a hypervisor) call rv_begin and rv_end around each call, and rv_line for its text.
+ * rv_start, rv_load, rv_store and rv_fetch are there on x86-64 Linux alone. On other systems, and without signals (in a unikernel, a
+ * simulator, or a hypervisor), call rv_begin and rv_end around each call or access, and rv_line for its text.
  * With RV_FREESTANDING defined the header uses no C library, and rv_join joins the rings.
  *
  * Units: addresses, lengths and offsets are in bytes. Cores are 0 to 63, and one thread at a time makes the calls of a core. */
@@ -457,11 +458,11 @@ static inline int rv_is_unlimited(void) {
     return !getrlimit(RLIMIT_AS, &all) && !getrlimit(RLIMIT_DATA, &data) && all.rlim_cur == RLIM_INFINITY && data.rlim_cur == RLIM_INFINITY;
 }
 
-/* Whether a refused mprotect may have met a limit in place of a page that isn't mapped: all its pages are mapped now, and the process has
- * limits, the range is of a size that memory may be short of, or the number of mappings is near its limit. Another thread may have mapped
+/* Whether mprotect may have been refused by a limit, and not for a page that isn't mapped. All its pages have to be mapped now. Also the
+ * process has limits, or the range is so large that memory may be short, or the number of mappings is near its limit. Another thread may have mapped
  * the page meanwhile: that is before the call's end stamp, so no reply is excused that couldn't have been. */
 static inline int rv_met_limit(uint64_t address, uint64_t length) {
-    enum { NEAR = 60000 }; /* Linux has 65530 of them, if it isn't told otherwise */
+    enum { NEAR = 60000 }; /* Linux allows 65530 of them by default */
     struct rv_maps maps = rv_look(address);
     if (maps.mapped_to < address || maps.mapped_to - address < length) return 0;
     return !rv_is_unlimited() || length >= (uint64_t)1 << 30 || maps.count >= NEAR;
@@ -498,7 +499,7 @@ static inline int rv_is_plain(int prot, int flags) {
            && !(flags & ~(MAP_TYPE | MAP_FIXED | MAP_ANONYMOUS | MAP_NORESERVE | MAP_POPULATE | MAP_STACK | MAP_NONBLOCK | MAP_DENYWRITE));
 }
 
-/* mmap; `file` is the number of the text's file behind `fd`. */
+/* mmap; `file` is the number of the line `file N ..` of the text that is about `fd`, and isn't read without a file. */
 static inline void *rv_mmap(struct rv_ring *ring, void *address, size_t length, int prot, int flags, int fd, off_t offset, uint32_t file) {
     struct rv_call call = rv_asked(RV_MMAP, rv_at(address), length, rv_rights(prot));
     call.flags = rv_flags(flags), call.file = file, call.offset = (uint64_t)offset;
@@ -563,7 +564,7 @@ static inline enum rv_told rv_try_store(void *address, uint8_t byte) {
 }
 
 /* The instruction there is called. It has to be one byte long and known by what it does: ret (0xc3), int3 (0xcc), hlt (0xf4), 0x06, which
- * is none, or 0 with a 0 behind it. */
+ * is none, or 0 followed by another 0. */
 static inline enum rv_told rv_try_fetch(const void *address, uint8_t *byte) {
     uint64_t value = rv_nowhere, told = RV_BYTE;
     __atomic_store_n(&rv_fetched, rv_at(address), __ATOMIC_RELAXED);
@@ -590,7 +591,7 @@ static inline enum rv_told rv_fault_told(int number, const siginfo_t *info) {
     return info->si_code == SEGV_ACCERR ? RV_ACCERR : info->si_code == PKUERR ? RV_KEY : RV_MAPERR;
 }
 
-/* Steps over the one access at which the thread stopped, and leaves what it was told in a register. What else stops a thread ends it, as
+/* Steps over the one access at which the thread stopped, and leaves its reply in a register. What else stops a thread ends it, as
  * without a handler. */
 static inline void rv_caught(int number, siginfo_t *info, void *context) {
     greg_t *registers = rv_registers(context);
@@ -624,7 +625,7 @@ static inline int rv_start(void) {
     return 0;
 }
 
-/* A load, a store and a fetch of a byte, recorded. Each returns what it was told: RV_BYTE, with the byte, or RV_DONE; RV_MAPERR, RV_ACCERR,
+/* A load, a store and a fetch of a byte, recorded. Each returns its reply: RV_BYTE, with the byte, or RV_DONE; RV_MAPERR, RV_ACCERR,
  * RV_BUS or RV_KEY. */
 static inline enum rv_told rv_load(struct rv_ring *ring, const void *address, uint8_t *byte) {
     struct rv_call *recorded = rv_begin(ring, rv_asked(RV_LOAD, rv_at(address), 0, 0));

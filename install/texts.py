@@ -9,7 +9,9 @@ import textwrap
 TOP = pathlib.Path(__file__).resolve().parent.parent
 SOURCES = "".join(path.read_text() for path in sorted((TOP / "crates/word_help/src").glob("*.rt")))
 # Topics whose text is that of another name, as the program has it.
-SAME = {"certify": "NOTES", "live": "THREADS", "status": "FAULTS", "help": "OVERVIEW"}
+SAME = {"certify": "NOTES", "live": "THREADS", "html": "PAGE", "errors": "FAULTS", "status": "FAULTS", "help": "OVERVIEW"}
+# Older names, which have no page.
+OLD = ("page", "faults")
 
 
 def text(name):
@@ -24,15 +26,17 @@ def version():
 
 def topics():
     listed = re.search(r"pub const TOPICS: &\[&str\] = &\[(.*?)\];", SOURCES, re.S)[1]
-    return re.findall(r'"(\w+)"', listed)
+    return [name for name in re.findall(r'"(\w+)"', listed) if name not in OLD]
 
 
 def words():
-    """Each word with its flags, and with what stands behind a flag: {"run": [("--log", None), ..]}."""
+    """Each word with its flags, and with what follows a flag: {"run": [("--log", []), ..]}."""
     found = {}
     for word, rest in re.findall(r"radixvm (\w+) (.*)", re.sub(r"\n {12,}", " ", text("USAGE"))):
-        flags = re.findall(r"(--[a-z-]+)(?: ([A-Z]+))?", rest)
-        found[word] = [(flag, value or None) for flag, value in flags]
+        flags = re.findall(r"(--[a-z-]+)((?: [A-Z]+)*)", rest)
+        found[word] = [(flag, values.split()) for flag, values in flags]
+        if word != "help":
+            found[word].append(("--color", ["WHEN"]))
     return found
 
 
@@ -47,14 +51,18 @@ def said():
 
 
 SAID = said()
+# How long a completion's description may be.
+MOST_ABOUT = 60
 
 
 def of_flag(word, flag):
     """What a flag of a word is for: as the overview says it, or else as the word's own text does, up to the end of its first part."""
     if f"{word} {flag}" in SAID or flag in SAID:
         return SAID.get(f"{word} {flag}") or SAID[flag]
-    own = re.search(rf"^( +){flag}(?: [A-Z]+)? +(\S.*(?:\n\1 {{6,}}\S.*)*)", text(SAME.get(word, word.upper())), re.M)
-    return re.split(r"[.:;] ", re.sub(r"\s+", " ", own[2]) + " ")[0].strip().rstrip(".") if own else f"radixvm help {word} says what it does"
+    own = re.search(rf"^( +){flag}(?: [A-Z]+)* +(\S.*(?:\n\1 {{6,}}\S.*)*)", text(SAME.get(word, word.upper())) + text("OVERVIEW"), re.M)
+    about = re.split(r"[.:;] ", re.sub(r"\s+", " ", own[2]) + " ")[0].strip().rstrip(".") if own else f"radixvm help {word} says what it does"
+    assert len(about) <= MOST_ABOUT, f"{word} {flag}: {about}"
+    return about
 
 
 # ---- man pages
@@ -87,11 +95,15 @@ def page(name, section, about, body):
     head = f'.TH {name.upper()} {section} "" "radixvm {version()}" "RadixVM"\n.SH NAME\n{name} \\- {plain}\n'
     said = "".join(f".SH {part}\n{roff(text)}" for part, text in parts(body).items())
     named = [(f"radixvm-{other}" if other else "radixvm", number) for other, number in listed()]
-    others = ".SH SEE ALSO\n" + ",\n".join(f"{other}({number})" for other, number in named if other != name).replace("-", "\\-") + "\n"
-    return head + said + STANDARDS + others
+    others = ".SH SEE ALSO\n" + ",\n".join(f"{other}({number})" for other, number in [*named, ("mmap", 2), ("mprotect", 2)] if other != name).replace("-", "\\-") + "\n"
+    return head + said + (ENVIRONMENT if section == 1 else "") + STANDARDS + BUGS + others
 
+
+ENVIRONMENT = ".SH ENVIRONMENT\nIf NO_COLOR is set, nothing is coloured.\n"
 
 STANDARDS = ".SH STANDARDS\nmmap, munmap and mprotect: POSIX.1\\-2017; page tables and TLBs: Intel SDM volume 3A.\n"
+
+BUGS = ".SH BUGS\nREADME.md (Limits) has what isn't modelled and what isn't proved. Report errors with the input and what radixvm \\-\\-version says.\n"
 
 
 def listed():
@@ -135,6 +147,11 @@ def quoted(about):
     return about.replace("'", "'\\''").replace("[", "\\[").replace("]", "\\]").replace(":", "\\:")
 
 
+def follows(values):
+    """What follows a flag, as zsh completes it."""
+    return "".join(f":{value}:{'_files' if value == 'FILE' else ''}" for value in values)
+
+
 def zsh():
     commands = "".join(f"        '{word}:{quoted(SAID[word])}'\n" for word in words())
     cases = ""
@@ -142,8 +159,8 @@ def zsh():
         if word == "help":
             cases += f"        help) _arguments '2:topic:({' '.join(topics())})' ;;\n"
             continue
-        specs = " ".join(f"'{flag}[{quoted(of_flag(word, flag))}]{f':{value}:' + ('_files' if value == 'FILE' else '') if value else ''}'" for flag, value in flags)
-        cases += f"        {word}) _arguments {specs} '--help[explains the word]' '*:file:_files' ;;\n"
+        specs = " ".join(f"'{flag}[{quoted(of_flag(word, flag))}]{follows(values)}'" for flag, values in flags)
+        cases += f"        {word}) _arguments {specs} '--help[explains the command]' '*:file:_files' ;;\n"
     return f"""#compdef radixvm
 # zsh completion of radixvm, made from its help
 _radixvm() {{
@@ -168,8 +185,8 @@ def fish():
     made = "# fish completion of radixvm, made from its help\n"
     for word, flags in words().items():
         made += line("__fish_use_subcommand", f"-f -a {word}", SAID[word])
-        for flag, value in flags:
-            made += line(f"__fish_seen_subcommand_from {word}", f"-l {flag.removeprefix('--')}{' -r' if value else ''}", of_flag(word, flag))
+        for flag, values in flags:
+            made += line(f"__fish_seen_subcommand_from {word}", f"-l {flag.removeprefix('--')}{' -r' if values else ''}", of_flag(word, flag))
     for topic in topics():
         made += line("__fish_seen_subcommand_from help", f"-f -a {topic}", SAID.get(topic, topic))
     return made

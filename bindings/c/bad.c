@@ -96,12 +96,12 @@ static void try_none(radixvm_machine *place, uint32_t status) {
     expect_status("entry of none", radixvm_entry(place, 0, 16, &word), status);
     radixvm_filled filled;
     radixvm_drop drop;
-    uint64_t reviews;
+    uint64_t back;
     expect_status("touch of none", radixvm_touch(place, 0, 0x10000, RADIXVM_LOAD, &told, &filled), status);
     expect_status("change of none", radixvm_change(place, &event, &told, &drop), status);
     expect_status("go on with none", radixvm_go_on(place, 0, &told, &filled, &drop), status);
     expect_status("take of none", radixvm_take(place, 0, &drop), status);
-    expect_status("reclaim of none", radixvm_reclaim(place, &reviews), status);
+    expect_status("reclaim of none", radixvm_reclaim(place, &back), status);
     expect_status("cores of none", (uint32_t)radixvm_cores(place), 0);
     radixvm_free(place);
     tried++;

@@ -114,7 +114,7 @@ static void change(uint32_t core) {
 /* An access by the core's word, after a fault where the word doesn't permit it. */
 static void touch(uint32_t core) {
     const uint32_t page = below(PAGES), offset = below(4096), store = below(2);
-    uint64_t *word = &words[core][page], reviews;
+    uint64_t *word = &words[core][page], back;
     const uint64_t at = (uint64_t)(FIRST + page) * 4096 + offset;
     for (int tries = 0; !(*word & 1) || (store && !(*word & 2)); tries++) {
         radixvm_outcome outcome;
@@ -123,7 +123,7 @@ static void touch(uint32_t core) {
         if (outcome.kind == RADIXVM_WAIT_ACKS) *word = 0; /* the page gets a copy */
         end(core, &outcome, &filled);
         if (outcome.kind == RADIXVM_NO_FRAME && tries < 2) {
-            check(radixvm_reclaim(&machine, &reviews));
+            check(radixvm_reclaim(&machine, &back));
             continue;
         }
         if (outcome.kind == RADIXVM_NO_FRAME) fail("no frame came back");

@@ -1,5 +1,5 @@
-//! Links `libradixvm.a`, which `./radixvm --build-library` makes: from the folder that RADIXVM_LIBRARY names, or from where it lies beside
-//! the sources, or beside this crate where it is installed.
+//! Links `libradixvm.a`, which `./radixvm --build-library` makes: from the folder that RADIXVM_LIBRARY names, or else from
+//! the place in the sources where it is built, or next to this crate where that is installed.
 use std::path::{Path, PathBuf};
 
 const FOLDERS: [&str; 2] = ["../../crates/radixvm_c/out", "../../../lib"];

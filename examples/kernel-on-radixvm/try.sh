@@ -2,14 +2,15 @@
 # Builds the kernel over libradixvm-kernel.a, runs it on 1, 2 and 4 processors of QEMU, and judges what they record by `radixvm audit --overlapping`:
 # every history has to be legal, and each error of the glue that is planted has to give `no order`, by one of three seeds.
 # Usage: examples/kernel-on-radixvm/try.sh [CALLS]: so many calls of each of the 4 processors, 8000 if none is given. RADIXVM_LIBRARY, RADIXVM_INCLUDE and
-# RADIXVM_PROGRAM name the library's folder, that of its headers, and the program; else they are those that are built here. Status: 0 if each verdict is
+# RADIXVM_PROGRAM name the library's folder, that of its headers, and the program; else they are those that are built or installed here. Status: 0 if each verdict is
 # as asked, and where something that it needs isn't here.
 set -euo pipefail
 top=$(cd "$(dirname "$0")/../.." && pwd)
 here=$top/examples/kernel-on-radixvm
 library=${RADIXVM_LIBRARY:-$top/crates/radixvm_c/out}
+[ -f "$library/libradixvm-kernel.a" ] || library=$top/../../lib # where these examples are installed
 include=${RADIXVM_INCLUDE:-$top/include}
-program=${RADIXVM_PROGRAM:-$top/crates/radixvm/out/radixvm}
+program=$("$top/examples/program.sh" 2> /dev/null || true)
 calls=${1:-8000}
 
 # Ends where something isn't here.
@@ -22,7 +23,7 @@ needs() { # WHAT COMMAND..
 }
 needs "qemu-system-x86_64 (apt-get install qemu-system-x86)" command -v qemu-system-x86_64
 needs "$library/libradixvm-kernel.a (./radixvm --build-library)" test -f "$library/libradixvm-kernel.a"
-needs "the program ($program)" test -x "$program"
+needs "the program (./radixvm --build)" test -n "$program"
 needs "a compiler for x86-64" test "$(uname -m)" = x86_64
 work=$(mktemp -d)
 trap 'rm -rf "$work"' EXIT

@@ -3,10 +3,10 @@
    cc -O2 -pthread -I include -o /tmp/kernel examples/kernel/kernel.c && /tmp/kernel 4 100000 | ./radixvm audit --overlapping
    usage: kernel [THREADS [CALLS [PAGES [MOST [SEED [FILE]]]]]]: each thread makes so many calls, on at most MOST pages of PAGES at once (4,
    100000, 8, 0 and 1 where they are left out). It is pinned to a processor. The record is kept in FILE, too: if the program is killed,
-   bindings/radixvm-record.c writes its history. For MOST 0 stands for single pages, which are mapped anew and protected, but never unmapped, nor given one
+   bindings/radixvm-record.c writes its history. MOST 0 means single pages, which are mapped anew and protected, but never unmapped, nor given one
    right while another is taken. POSIX allows a kernel what no page map does, and Linux does it: where MOST is above 1 it shows a range half
    changed. Where it is 1, it serves one thread's access to a page that is being unmapped after another's was refused, once in a million
-   calls or two: faults are told by the list of mappings, which munmap shortens first, and other accesses by page tables and TLBs, which it
+   calls or two: page faults are judged by the list of mappings, which munmap shortens first, and other accesses by page tables and TLBs, which it
    clears then. And once in ten million it serves a fetch by a right that mprotect gives, and then a store by one that it takes, which
    another processor's TLB still has. So neither these four calls of Linux 6.18 have an order nor those five, and audit says no order:
    10 11 c3! mmap 0x10000 4096 r-x sf 0 0x2000 = 0x10000        10 11 c0! mmap 0x10000 4096 rw- pfa = 0x10000

@@ -1,5 +1,5 @@
-/* Makes a call of each kind with each reply that the recorder's header tells, and fills a ring: the record then ends for all threads. What is
-   wrong is told on standard error; the history goes to standard output. examples/kernel/test.sh compiles and runs it. */
+/* Makes a call of each kind with each reply that the recorder's header knows, and fills a ring: the record then ends for all threads. What is
+   wrong is reported on standard error; the history goes to standard output. examples/kernel/test.sh compiles and runs it. */
 #ifndef _GNU_SOURCE
 #define _GNU_SOURCE
 #endif
@@ -55,7 +55,7 @@ static void touch_file(struct rv_ring *ring, uint8_t *at, int fd) {
     need(rv_mmap(ring, at, PAGE, PROT_READ, MAP_PRIVATE | MAP_FIXED, -1, 0, 7) == MAP_FAILED && errno == EBADF, "mmap, ebadf");
 }
 
-/* How the last call of the ring is told. */
+/* The reply of the ring's last call. */
 static unsigned last_told(const struct rv_ring *ring) { return ring->calls[ring->count - 1].told; }
 
 /* What a plain page map lacks: limits, an error of its own, a flag and execute-only pages. */

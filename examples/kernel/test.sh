@@ -1,12 +1,12 @@
 #!/usr/bin/env bash
-# Tests the recorder's header include/radixvm_record.h: it is compiled by gcc and clang as C11 and as C++17, with all warnings as errors, with the
-# counter and with time stamps, optimised, and with the sanitizers of addresses, of undefined behaviour and of threads; each reply is made once, a
+# Tests the recorder's header include/radixvm_record.h. It is compiled by gcc and clang as C11 and as C++17, with all warnings as errors, with the
+# counter and with time stamps. It runs optimised, and with the sanitizers of addresses, of undefined behaviour and of threads. Each reply is made once, a
 # ring is filled, and what one thread recorded of the kernel here is judged by `audit`, which knows no stamps. Then 4 threads are recorded, and judged by
 # `audit --overlapping`; a record in a file gives the same text, and that of a program that is killed half-way is judged, too.
 # Usage: examples/kernel/test.sh [CALLS]: so many calls of each thread, 20000 if none is given
 set -euo pipefail
 top=$(cd "$(dirname "$0")/../.." && pwd)
-program=${RADIXVM_PROGRAM:-$top/crates/radixvm/out/radixvm}
+program=$("$top/examples/program.sh")
 calls=${1:-20000}
 work=$(mktemp -d)
 trap 'rm -rf "$work"' EXIT

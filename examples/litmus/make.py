@@ -1,17 +1,14 @@
 #!/usr/bin/env python3
-"""Writes beside each NAME.litmus what `radixvm litmus` writes for it, as NAME.out, and README.md, a page of all: what each test teaches (by the table of
+"""Writes next to each NAME.litmus what `radixvm litmus` writes for it, as NAME.out, and README.md, a page of all: what each test teaches (by the table of
 ../README.md, in whose order they come), its lines, its outcomes, and whether its clauses hold.
-Usage: examples/litmus/make.py [--check]; --check writes nothing, and tells which files are stale. RADIXVM names the program; else it is the built one, or that on the PATH."""
-import os
+Usage: examples/litmus/make.py [--check]; --check writes nothing, and tells which files are stale. The program is the one that ../program.sh finds."""
 import pathlib
 import re
-import shutil
 import subprocess
 import sys
 
 HERE = pathlib.Path(__file__).resolve().parent
-BUILT = HERE.parent.parent / "crates/radixvm/out/radixvm"
-PROGRAM = os.environ.get("RADIXVM") or os.environ.get("RADIXVM_PROGRAM") or (str(BUILT) if BUILT.exists() else shutil.which("radixvm") or str(BUILT))
+PROGRAM = subprocess.run([HERE.parent / "program.sh"], stdout=subprocess.PIPE, text=True, check=True).stdout.strip()
 FRONT = """# Ten litmus tests
 
 A litmus test is a few calls of several cores. `radixvm litmus NAME.litmus` lists every outcome that some schedule gives, and judges the clauses. `exact`

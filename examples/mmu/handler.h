@@ -1,6 +1,6 @@
 /* A core's loop over the library: page faults, changes and messages, for any MMU. The platform's file defines the functions declared here, and
    includes this one; space.h does it for Linux processes, and ../kernel-on-radixvm/kernel.c for processors. The library decides what may be
-   translated, and hardware translates. The numbers of duties are those of include/radixvm.h, and each stands where it is kept. */
+   translated, and hardware translates. The numbers of duties are those of include/radixvm.h, and each is named where it is kept. */
 #ifndef HANDLER_H
 #define HANDLER_H
 #include "radixvm.h"
@@ -59,7 +59,7 @@ static void let_others_run(void) {
     lock();
 }
 
-/* Gives a new frame its bytes, before any core has a word for it. Duty 1: under the lock under which the library told it. */
+/* Gives a new frame its bytes, before any core has a word for it. Duty 1: under the lock of the call that asked for it. */
 static void fill(const radixvm_filled *filled) {
     uint8_t *to = frame_bytes(filled->frame);
     if (bug == LATE_COPY && filled->fill == RADIXVM_FILL_FRAME) let_others_run();

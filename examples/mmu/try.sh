@@ -3,12 +3,13 @@
 # call may lack a frame, for the library brings frames back. Each planted error of the glue has to give `no order`, by one of three seeds. At last an
 # ordinary program sorts in the space.
 # Usage: examples/mmu/try.sh [CALLS]: so many calls of each of the 3 processes, 20000 if none is given. RADIXVM_LIBRARY, RADIXVM_INCLUDE and RADIXVM_PROGRAM
-# name the library's folder, that of its headers, and the program; else they are those that are built here. Status: 0 if each verdict is as asked.
+# name the library's folder, that of its headers, and the program; else they are those that are built or installed here. Status: 0 if each verdict is as asked.
 set -euo pipefail
 top=$(cd "$(dirname "$0")/../.." && pwd)
 library=${RADIXVM_LIBRARY:-$top/crates/radixvm_c/out}
+[ -f "$library/libradixvm.a" ] || library=$top/../../lib # where these examples are installed
 include=${RADIXVM_INCLUDE:-$top/include}
-program=${RADIXVM_PROGRAM:-$top/crates/radixvm/out/radixvm}
+program=$("$top/examples/program.sh")
 calls=${1:-20000}
 if [ "$(uname -sm)" != "Linux x86_64" ]; then
     echo "examples/mmu: not tried, for this isn't Linux on x86-64"

@@ -2,8 +2,7 @@
 """Writes what comes of the logs in this folder: NAME.trace, which `radixvm import` makes of NAME.log, NAME.maps, which `radixvm maps` writes for that, and
 NAME.svg, the lives of its mappings (`radixvm picture --lives`).
 Usage: examples/real/make.py [--check | --record]; --check writes nothing, and tells which files are stale; --record makes the logs themselves anew, by strace,
-but heap.log. RADIXVM names the program; else it is the built one, or that on the PATH."""
-import os
+but heap.log. The program is the one that ../program.sh finds."""
 import pathlib
 import shutil
 import subprocess
@@ -11,17 +10,16 @@ import sys
 import tempfile
 
 HERE = pathlib.Path(__file__).resolve().parent
-BUILT = HERE.parent.parent / "crates/radixvm/out/radixvm"
-PROGRAM = os.environ.get("RADIXVM") or os.environ.get("RADIXVM_PROGRAM") or (str(BUILT) if BUILT.exists() else shutil.which("radixvm") or str(BUILT))
+PROGRAM = subprocess.run([HERE.parent / "program.sh"], stdout=subprocess.PIPE, text=True, check=True).stdout.strip()
 # What is recorded, in a new folder: a database that is killed while it is open, and a program with threads.
 RECORD = """
 mkfifo ask
-strace -f -y -o database.log -e trace=memory,process sqlite3 /tmp/shop.db < ask > told &
+strace -f -y -o database.log -e trace=memory,process sqlite3 /tmp/shop.db < ask > answers &
 exec 3> ask
 echo "pragma mmap_size = 50000000; create table t(a, b);
 with recursive n(i) as (select 1 union all select i + 1 from n where i < 3000) insert into t select i, hex(randomblob(100)) from n;
 select count(*) from t; insert into t select a, b from t; select sum(length(b)) from t;" >&3
-until grep -q 1200000 told; do sleep 0.1; done
+until grep -q 1200000 answers; do sleep 0.1; done
 kill -KILL $(pgrep -P $!)
 wait
 rm /tmp/shop.db

@@ -2,7 +2,8 @@
 //! (`crates/radixvm_c`). This crate isn't: it turns its own types into the structs of `include/radixvm.h`, and back.
 //!
 //! A batch makes a new machine, gives it what is asked for, and hands back what each came to. A [`Machine`] is kept, and takes
-//! events and calls as they come. [`Space::share`] gives each thread a [`Seat`] of it, with which it calls beside the others.
+//! events and calls as they come. [`Space::share`] gives each thread a [`Seat`] of it, which makes the calls of one
+//! core while other threads make theirs.
 //!
 //! ```
 //! use radixvm::{calls, Ask, Flags, Outcome, Prot, Reply, Request, Setup};
@@ -133,7 +134,7 @@ pub enum Event {
     Review(u32),
     /// Slots are joined at this page. It has no core.
     Fold(u64),
-    /// Its call is given up for want of memory.
+    /// Its call is cancelled, as if memory were short.
     GiveUp(u32),
 }
 
@@ -177,7 +178,7 @@ pub enum Reply {
     Bus,
     /// No frame was free.
     NoFrame,
-    /// The call was given up for want of memory.
+    /// The call was cancelled: by [`Event::GiveUp`], or since a seat was refused memory.
     NoMemory,
 }
 
@@ -192,7 +193,7 @@ pub enum Outcome {
     WaitsForAcks(u64),
     /// The event isn't possible now.
     Idle,
-    /// The limit of calls or of events is reached.
+    /// The limit of calls or of events is reached; of `reclaim`, that of epochs.
     Full,
     /// A call was answered.
     Replied(Reply),
@@ -200,7 +201,7 @@ pub enum Outcome {
     Stuck,
 }
 
-/// What backs neighbouring pages. A file's pages are counted from 0, and `page` is the one behind the first of them.
+/// What backs neighbouring pages. A file's pages are counted from 0, and `page` is the one that backs the first of them.
 #[derive(Clone, Copy, Debug, PartialEq, Eq)]
 pub enum Back {
     /// Zero bytes.
@@ -257,7 +258,7 @@ pub enum Error {
     Busy,
     /// A core has a call that isn't at its end.
     InFlight,
-    /// The limit of calls or of events is reached.
+    /// The limit of calls or of events is reached; of `reclaim`, that of epochs.
     Full,
     /// The library answered a code that isn't in its header, which this crate is for.
     UnknownCode(u32),

@@ -84,7 +84,7 @@ impl Machine {
         self.place.one(&of_ask(&Ask::Call(core, request)), Way::Calls)
     }
 
-    /// Makes the rest of the core's call, after a wait, a begin, or a want of memory.
+    /// Makes the rest of the core's call, after a wait or a begin, or when it was refused memory.
     ///
     /// ```
     /// use radixvm::{Machine, Outcome, Reply, Request, Setup};
@@ -179,13 +179,12 @@ impl Machine {
         self.place.go_on(core)
     }
 
-    /// The core does what the oldest message of its inbox asks, which is told; none where there is no message.
+    /// The core does what the oldest message of its inbox asks. Returns that, or none if there is no message.
     pub fn take(&mut self, core: u32) -> Result<Option<Drop>, Error> {
         self.place.take(core)
     }
 
-    /// Brings back frames that no page has any more, as `radixvm_reclaim` does in C: how many reviews were made, at least as many as
-    /// frames came back.
+    /// Brings back each frame that no page has, that caches no page of a file and that no call has taken: how many came back.
     ///
     /// ```
     /// use radixvm::{Access, Flags, Machine, Outcome, Prot, Reply, Request, Setup};
@@ -202,28 +201,7 @@ impl Machine {
     /// # Ok::<(), radixvm::Error>(())
     /// ```
     pub fn reclaim(&mut self) -> Result<u64, Error> {
-        let (cores, mut reviews, mut quiet) = (self.cores() as u32, 0, 0);
-        for _round in 0..8 {
-            let before = reviews;
-            for core in 0..cores {
-                // a core has at most 64 counts to flush, and then ends its part of the epoch
-                for _flush in 0..65 {
-                    if self.step(&Event::Flush(core))? != Outcome::Stepped {
-                        break;
-                    }
-                }
-            }
-            for core in 0..cores {
-                while self.step(&Event::Review(core))? == Outcome::Stepped {
-                    reviews += 1;
-                }
-            }
-            quiet = if reviews == before { quiet + 1 } else { 0 };
-            if quiet == 3 {
-                break;
-            }
-        }
-        Ok(reviews)
+        self.place.reclaim()
     }
 
     /// How many cores it has.

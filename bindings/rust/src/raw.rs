@@ -50,7 +50,7 @@ pub struct Place {
     at: *mut u8,
 }
 
-// SAFETY: `crates/radixvm_c` proves that what lies behind it may go to another thread.
+// SAFETY: `crates/radixvm_c` proves that what it points to may go to another thread.
 unsafe impl Send for Place {}
 
 /// A seat, as C holds it: the library's pointer, null where there is none.
@@ -143,6 +143,7 @@ extern "C" {
         machine: *mut Place, core: u32, outcome: *mut RawOutcome, filled: *mut RawFilled, own: *mut RawDrop,
     ) -> u32;
     fn radixvm_take_held(machine: *mut Place, core: u32, told: *mut RawDrop) -> u32;
+    fn radixvm_reclaim_held(machine: *mut Place, frames: *mut u64) -> u32;
     fn radixvm_share_held(machine: *mut Place, seat: *mut SeatPlace) -> u32;
     fn radixvm_split_seat(first: *mut SeatPlace, other: *mut SeatPlace) -> u32;
     fn radixvm_try_seat(seat: *mut SeatPlace, event: *const RawEvent, outcome: *mut RawOutcome) -> u32;
@@ -309,7 +310,7 @@ fn of_setup(setup: &Setup) -> (RawSetup, Vec<RawFile>, Vec<u8>) {
     (RawSetup { cores: setup.cores, frames: setup.frames, calls: setup.calls, log: u32::from(setup.log) }, files, bytes)
 }
 
-/// What a batch came to that told these outcomes.
+/// What a batch with these outcomes came to.
 fn ended(done: &RawDone, told: &[RawOutcome]) -> Result<Vec<Outcome>, Stopped> {
     let count = if done.status <= 2 { done.count as usize } else { 0 };
     let outcomes: Option<Vec<_>> = told[..count].iter().map(outcome_of).collect();
@@ -405,6 +406,17 @@ impl Place {
         let status = unsafe { radixvm_take_held(self, core, &mut told) };
         if status == 0 {
             Ok(drop_of(&told))
+        } else {
+            Err(error_of(status, 0))
+        }
+    }
+
+    pub fn reclaim(&mut self) -> Result<u64, Error> {
+        let mut frames = 0;
+        // SAFETY: as above.
+        let status = unsafe { radixvm_reclaim_held(self, &mut frames) };
+        if status == 0 {
+            Ok(frames)
         } else {
             Err(error_of(status, 0))
         }

@@ -13,7 +13,7 @@ const PAUSES: u32 = 10;
 pub struct Space;
 
 /// The right to call as one core. Seats of one machine may be in different threads, each in one at a time: a seat is `Send`, and not
-/// `Sync`. What is proved (`crates/radixvm_c`), for every schedule: what the seats are told are the replies of a plain page map, in
+/// `Sync`. What is proved (`crates/radixvm_c`), for every schedule: the seats get the replies of a plain page map, in
 /// one order that has each seat's calls in the order in which it made them. It isn't said that a call ever finds the machine free, but
 /// the only seat of a machine of one core always does.
 ///
@@ -26,7 +26,7 @@ pub struct Space;
 pub struct Seat {
     place: SeatPlace,
     core: u32,
-    /// All seats of one machine have it, and nobody else. It is dropped behind the place, so that as many seats as it has owners are
+    /// All seats of one machine have it, and nobody else. It is dropped after the place, so that as many seats as it has owners are
     /// all that are left.
     of: Arc<()>,
 }
@@ -46,7 +46,7 @@ impl fmt::Display for Unshared {
 
 impl error::Error for Unshared {}
 
-/// What a core does beside its calls.
+/// What a core does that is no call.
 #[derive(Clone, Copy, Debug, PartialEq, Eq)]
 pub enum Aside {
     /// Its TLB gets the page's translation from its tables.
@@ -202,7 +202,7 @@ impl Seat {
     }
 
     /// Whole calls of this core, one after another, with no call of another seat between them, which makes short calls cheaper; or
-    /// [`Error::Busy`] where another seat is in a call, and then nothing was done. It stops behind a call that memory was refused to, and
+    /// [`Error::Busy`] where another seat is in a call, and then nothing was done. It stops after a call that memory was refused to, and
     /// at [`Error::Full`]. The others wait as long as all of the calls take.
     ///
     /// ```
@@ -224,7 +224,7 @@ impl Seat {
         until_free(|| self.try_calls(requests), |stopped| stopped.error == Error::Busy)
     }
 
-    /// What this core does beside its calls: [`Outcome::Stepped`], [`Outcome::Idle`] where there was nothing to do, or [`Outcome::Full`] at
+    /// What this core does that is no call: [`Outcome::Stepped`], [`Outcome::Idle`] where there was nothing to do, or [`Outcome::Full`] at
     /// the limit of events. The log stays as it is. [`Error::Busy`]: another seat is in a call, and nothing was done.
     pub fn try_aside(&mut self, aside: Aside) -> Result<Outcome, Error> {
         self.place.try_aside(&aside)

@@ -29,7 +29,7 @@ use Rattle.audit.specs.declared.judging.ReplyVerdict.TheVariants.{Legal, Illegal
 use Rattle.audit.specs.Judging.{Compares, GivesPlan, Judges, JudgesPlan, after_copy, stored, touched_after}
 use Rattle.audit.specs.Keeping.{Keeps, entry_kept, files_kept, own_kept, plain_kept}
 use Rattle.audit.specs.Storing.{HasBytes}
-use Rattle.audit.specs.Placing.{IsAllowed, IsFirst, place_said, reply_at, rule_of}
+use Rattle.audit.specs.Placing.{IsAllowed, place_said, reply_at, rule_of}
 use Rattle.audit.proofs.Changed.{has_modes, mapped_kept, modes_kept, plain_changed, shown_kept}
 use Rattle.audit.proofs.Judged.{HasOneAnswer, judged_compared, judged_illegal, judged_legal}
 use Rattle.audit.proofs.Judged.{one_changed, one_refused, one_touched, place_answers, place_illegal, placed_map}
@@ -158,27 +158,27 @@ frame_within s o f page info at k = go info.frame refl
 
 -- ---- mappings without MAP_FIXED
 
-first_kept : (s : Slots) (o : List FileParts) (f : FrameParts) (place : Place) (first : Option ℕ) → IsFirst (is_mapped (entries s)) place first
-    → IsFirst (is_mapped (plain_kept s o f).entry) place first
-first_kept s o f place first h = subst (λ m. IsFirst m place first) (sym (mapped_kept s o f)) h
+due_kept_place : (any : Bool) (s : Slots) (o : List FileParts) (f : FrameParts) (place : Place) (found : Option ℕ)
+    → IsAllowed any (is_mapped (entries s)) place found → IsAllowed any (is_mapped (plain_kept s o f).entry) place found
+due_kept_place any s o f place found h = subst (λ m. IsAllowed any m place found) (sym (mapped_kept s o f)) h
 
 allowed_kept : (any : Bool) (s : Slots) (o : List FileParts) (f : FrameParts) (place : Place) (found : Option ℕ)
     → IsAllowed any (is_mapped (plain_kept s o f).entry) place found → IsAllowed any (is_mapped (entries s)) place found
 allowed_kept any s o f place found h = subst (λ m. IsAllowed any m place found) (mapped_kept s o f) h
 
 pub place_unsaid : (any : Bool) (s : Slots) (o : List FileParts) (f : FrameParts) (place : Place) (reply : Reply) (first : Option ℕ) (due : Reply)
-    → place_said reply ≡ None → IsFirst (is_mapped (entries s)) place first → due ≡ reply_at first
+    → place_said reply ≡ None → IsAllowed any (is_mapped (entries s)) place first → due ≡ reply_at first
     → JudgesPlan any (plain_kept s o f) (PlanOf.Place place) reply (Illegal due) (plain_kept s o f)
-place_unsaid any s o f place reply first due none is_first is_due =
+place_unsaid any s o f place reply first due none allowed is_due =
     subst (λ y. JudgesPlan any (plain_kept s o f) (PlanOf.Place place) reply (Illegal y) (plain_kept s o f)) (sym is_due)
-    (place_illegal any (plain_kept s o f) reply place first (λ found e. absurd cc) (first_kept s o f place first is_first))
+    (place_illegal any (plain_kept s o f) reply place first (λ found e. absurd cc) (due_kept_place any s o f place first allowed))
 
 pub place_wrong : (any : Bool) (s : Slots) (o : List FileParts) (f : FrameParts) (place : Place) (reply : Reply) (found first : Option ℕ) (due : Reply)
-    → place_said reply ≡ Some found → ¬ IsAllowed any (is_mapped (entries s)) place found → IsFirst (is_mapped (entries s)) place first
+    → place_said reply ≡ Some found → ¬ IsAllowed any (is_mapped (entries s)) place found → IsAllowed any (is_mapped (entries s)) place first
     → due ≡ reply_at first → JudgesPlan any (plain_kept s o f) (PlanOf.Place place) reply (Illegal due) (plain_kept s o f)
-place_wrong any s o f place reply found first due said not is_first is_due =
+place_wrong any s o f place reply found first due said not allowed is_due =
     subst (λ y. JudgesPlan any (plain_kept s o f) (PlanOf.Place place) reply (Illegal y) (plain_kept s o f)) (sym is_due)
-    (place_illegal any (plain_kept s o f) reply place first other (first_kept s o f place first is_first))
+    (place_illegal any (plain_kept s o f) reply place first other (due_kept_place any s o f place first allowed))
   where
     other : (x : Option ℕ) → place_said reply ≡ Some x → ¬ IsAllowed any (is_mapped (plain_kept s o f).entry) place x
     other x e h =

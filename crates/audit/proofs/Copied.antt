@@ -1,5 +1,6 @@
 -- A copy that was made is the plain map's
-use Rattle.slot_lock.proofs.Words.{◌≡◌, ℕ, Bool, arith, not, true, false, List, Option, Some, None, is_some, refl, sym, ◌∙◌, ap, subst, Back, Anon, Shared, Private}
+use Rattle.slot_lock.proofs.Words.{◌≡◌, ℕ, Bool, arith, not, true, false, List, Option, Some, None, is_some, refl, sym, ◌∙◌, ap, subst, Back, Anon}
+use Rattle.slot_lock.proofs.Words.{Shared, Private}
 use Rattle.slot_lock.proofs.Words.{PageInfo, Bytes, PageEntry, Plain, bytes_of, Store, put}
 use Rattle.std.specs.Prelude.{◌&&◌}
 use Rattle.std.proofs.lemmas.Bool.Decides.{nat_tests}

@@ -1,11 +1,13 @@
 -- What is judged of a request, by what its plan is
-use Rattle.slot_lock.proofs.Words.{◌≡◌, ◌≢◌, ℕ, ◌<◌, ◌⊎◌, inl, inr, not, Bool, true, false, Option, Some, None, Result, Ok, Err, refl, sym, ◌∙◌, ap, subst}
+use Rattle.slot_lock.proofs.Words.{◌≡◌, ◌≢◌, ℕ, ◌*◌, ◌<◌, ◌⊎◌, inl, inr, not, Bool, true, false, Option, Some, None, Result, Ok, Err, refl, sym, ◌∙◌, ap, subst}
 use Rattle.slot_lock.proofs.Words.{if◌then◌else◌, fun_ext, Back, Meta, Access, Mode, Prot, Flags, Request, Mmap, Munmap, Mprotect, Reply, Mapped, Done, Byte}
-use Rattle.slot_lock.proofs.Words.{Refused, Segv, Bus, NoFrame, NoMemory, MapErr, is_page, page_of, page_count, pages_from, pages_of, window_of, Bytes, PageEntry}
+use Rattle.slot_lock.proofs.Words.{Refused, Segv, Bus, NoFrame, NoMemory, MapErr, is_page, page_of, page_count, pages_from, pages_of, window_of}
+use Rattle.slot_lock.proofs.Words.{Bytes, PageEntry}
 use Rattle.slot_lock.proofs.Words.{File, Plain, bytes_of, is_mapped, mode_of, refusal, AppliesAfter, Applies, put, entry_reply, meta_of, Answers, put_same}
 use Rattle.std.specs.Prelude.{cond}
 use Rattle.vm_base.specs.declared.rights.Access.TheVariants as By
 use Rattle.vm_base.specs.declared.requests.Request.TheVariants.{Load, Store, Fetch}
+use Rattle.vm_base.specs.declared.replies.Errno.TheVariants.{ENOMEM}
 use Rattle.vm_base.specs.declared.replies.SegvCode.TheVariants.{AccErr}
 use Rattle.vm_base.specs.Pages.{offset_of}
 use Rattle.vm_base.specs.Places.{IsFirstPlace, IsPlace, PlaceRule}
@@ -34,7 +36,7 @@ use Rattle.audit.proofs.Placed.{all_placed, allowed_of_rule, reply_said, rule_of
 
 -- ---- rules of places concern mappings without MAP_FIXED alone
 
-swap_named : (r q : PlaceRule) (t : Plain) (c : ℕ) (request : Request) (y : Reply) (u : Plain) → is_placed request ≡ false
+pub swap_named : (r q : PlaceRule) (t : Plain) (c : ℕ) (request : Request) (y : Reply) (u : Plain) → is_placed request ≡ false
     → Applies r t c request y u → Applies q t c request y u
 swap_named r q t c request y u named = go (refusal (λ n. mode_of (t.file n)) request) request named
   where
@@ -170,7 +172,7 @@ pub judged_illegal : (any : Bool) (t : Plain) (c : ℕ) (request : Request) (rep
 judged_illegal any t c request reply due u ne h =
     let first = h.others any due u (h.answers any) in (
       λ v a. ne (one_first t c request reply due v u (h.others any reply v a) first),
-      (u, first),
+      (u, h.answers any),
       refl,
     )
 
@@ -523,15 +525,46 @@ place_asked any t c request place y v few is h =
           (allowed_of_rule any (is_mapped t.entry) c a.addr a.len a.meta b.0 few b.1),
     )
 
+-- a mapping without MAP_FIXED that may be somewhere is answered where it is, or that there is no memory
+pub placed_due : (any : Bool) (t : Plain) (c : ℕ) (request : Request) (at : ℕ) (due : Reply) (u v : Plain) → is_placed request ≡ true
+    → Answers (rule_of any) t c request (Mapped at) u → Answers (rule_of any) t c request due v
+    → ((b : ℕ) × (due ≡ Mapped b)) ⊎ (due ≡ Refused ENOMEM)
+placed_due any t c (Munmap addr len) at due u v placed h k = absurd cc
+placed_due any t c (Mprotect addr len prot) at due u v placed h k = absurd cc
+placed_due any t c (Load addr) at due u v placed h k = absurd cc
+placed_due any t c (Store addr byte) at due u v placed h k = absurd cc
+placed_due any t c (Fetch addr) at due u v placed h k = absurd cc
+placed_due any t c (Mmap addr len prot flags file off) at due u v placed h k =
+    go (refusal (λ n. mode_of (t.file n)) (Mmap addr len prot flags file off))
+    (still t (Mmap addr len prot flags file off) refl (rule_of any) c (Mapped at) u h)
+    (still t (Mmap addr len prot flags file off) refl (rule_of any) c due v k)
+  where
+    asked : NewMapping
+    asked = record { core = c; addr = addr; len = len; meta = meta_of prot flags file off }
+
+    found : (o : Option ℕ) → Maps t (range_at o (page_count len)) asked.meta.back asked.meta.prot due v
+        → ((b : ℕ) × (due ≡ Mapped b)) ⊎ (due ≡ Refused ENOMEM)
+    found None m = inr m.0
+    found (Some s) m = inl (s * 4096, m.0)
+
+    maps : (b : Bool) → MapsAt (rule_of any) b t asked due v → ((b : ℕ) × (due ≡ Mapped b)) ⊎ (due ≡ Refused ENOMEM)
+    maps true k = inl ((pages_of addr len).first * 4096, k.0)
+    maps false k = found k.0 k.2
+
+    go : (o : Option Reply) → AppliesAfter (rule_of any) o t c (Mmap addr len prot flags file off) (Mapped at) u
+        → AppliesAfter (rule_of any) o t c (Mmap addr len prot flags file off) due v → ((b : ℕ) × (due ≡ Mapped b)) ⊎ (due ≡ Refused ENOMEM)
+    go (Some z) h k = inl (at, k.0 ∙ sym h.0)
+    go None h k = maps flags.fixed k
+
 -- no place that the reply says is allowed
 pub place_illegal : (any : Bool) (t : Plain) (reply : Reply) (place : Place) (first : Option ℕ)
     → ((found : Option ℕ) → place_said reply ≡ Some found → ¬ IsAllowed any (is_mapped t.entry) place found)
-    → IsFirst (is_mapped t.entry) place first → JudgesPlan any t (PlanOf.Place place) reply (Illegal (reply_at first)) t
-place_illegal any t reply place first none is_first c request few is = (
+    → IsAllowed any (is_mapped t.entry) place first → JudgesPlan any t (PlanOf.Place place) reply (Illegal (reply_at first)) t
+place_illegal any t reply place first none is_allowed c request few is = (
   λ v a.
       let b = place_asked any t c request place reply v few is a in
       none b.0 (ap place_said b.1 ∙ reply_said b.0) b.2,
-  (placed_map t place first, place_answers false t c request place first few is is_first),
+  (placed_map t place first, place_answers any t c request place first few is is_allowed),
   refl,
 )
 

@@ -11,7 +11,9 @@ use Rattle.slot_lock.specs.declared.plan.Place.{Place}
 use Rattle.slot_lock.specs.Slots.{Slots, IsFreeRun}
 use Rattle.vm_calls.specs.Checks.{hint_at, place_of, placed_count}
 use Rattle.vm_calls.specs.Decisions.{entries}
-use Rattle.vm_calls.proofs.Rooms.{room-run, run-room}
+use Rattle.slot_lock.specs.Plan.{IsSoundHint, IsSoundPlace}
+use Rattle.vm_base.specs.Pages.{IsPageRange}
+use Rattle.vm_calls.proofs.Rooms.{least-room, room-run, run-room}
 use Rattle.vm_calls.proofs.Plainly.{counted, few-found, hint-is, none-found, valid-few}
 use Rattle.audit.specs.Placing.{IsAllowed, IsFirst, IsHintTaken, all_pages, place_said, reply_at, rule_of}
 
@@ -56,6 +58,41 @@ first_one m place a b (inr h) (inr k) = least_one a b h.1 k.1
         let not_above : ¬ s < t = λ x. r.1 s x l.0 in
         let same : s ≡ t = omega (arith, not_below, not_above) in
         ap Some same
+
+-- ---- any place
+
+-- the first place, if there is one, is one of them
+first_room : (m : ℕ → Bool) (place : Place) (s : ℕ) → IsSoundPlace place → IsPageRange (pages_from s place.count) → IsFirst m place (Some s)
+    → IsRoom m all_pages place.count s
+first_room m place s sound pages (inl h) = (
+  record { low = pages.low; high = pages.high },
+  subst (IsFree m) (whole (subst (λ (o : Option PageRange). IsSoundHint o place.count) h.1 sound.hint)) h.2,
+)
+  where
+    whole : IsSoundHint (Some h.0) place.count → h.0 ≡ pages_from s place.count
+    whole hint =
+        let same : s ≡ h.0.first = cc in
+        ap (λ (e : ℕ). record { first = h.0.first; end = e }) hint.1 ∙ ap (λ (n : ℕ). pages_from n place.count) (sym same)
+first_room m place s sound pages (inr h) = (record { low = pages.low; high = pages.high }, h.1.0.1)
+
+least_any : (m : ℕ → Bool) (place : Place) (o : Option ℕ) → IsLeastRoom m all_pages place.count o → IsAllowed true m place o
+least_any m place None none = none
+least_any m place (Some s) l = l.0
+
+pub first_allowed : (any : Bool) (m : ℕ → Bool) (place : Place) (o : Option ℕ) (s : ℕ) → o ≡ Some s → IsSoundPlace place
+    → IfSome o (λ (n : ℕ). IsPageRange (pages_from n place.count)) → IsFirst m place o → IsAllowed any m place o
+first_allowed any m place None s e sound pages h = absurd cc
+first_allowed true m place (Some n) s e sound pages h = first_room m place n sound pages h
+first_allowed false m place (Some n) s e sound pages h = h
+
+pub first_by_rule : (any : Bool) (m : ℕ → Bool) (place : Place) (o : Option ℕ) → any ≡ false → IsFirst m place o → IsAllowed any m place o
+first_by_rule any m place o e h = subst (λ (b : Bool). IsAllowed b m place o) (sym e) h
+
+pub least_allowed : (any : Bool) (s : Slots) (place : Place) (o : Option ℕ) → any ≡ true → IfSome o (IsFreeRun s all_pages place.count)
+    → IfSome o (λ f. (r : ℕ) → r < f → ¬ IsFreeRun s all_pages place.count r) → IfNone o ((r : ℕ) → ¬ IsFreeRun s all_pages place.count r)
+    → IsAllowed any (is_mapped (entries s)) place o
+least_allowed any s place o e found least none = subst (λ (b : Bool). IsAllowed b (is_mapped (entries s)) place o) (sym e)
+    (least_any (is_mapped (entries s)) place o (least-room s all_pages place.count o found least none))
 
 -- ---- the rule of a request, and of its plan
 

@@ -1,10 +1,11 @@
 -- Calls one after another
-use Rattle.slot_lock.proofs.Words.{◌≡◌, ℕ, zero, suc, ◌+◌, ◌<◌, Bool, List, [], ◌∷◌, ◌++◌, Some, length, take, refl, sym, ◌∙◌, ap, subst, arith, take_more, Plain}
+use Rattle.slot_lock.proofs.Words.{◌≡◌, ℕ, zero, suc, ◌+◌, ◌<◌, Bool, List, [], ◌∷◌, ◌++◌, Some, length, take, refl, sym, ◌∙◌, ap, subst, arith}
+use Rattle.slot_lock.proofs.Words.{take_more, Plain}
 use Rattle.slot_lock.proofs.Words.{Answers}
 use Rattle.std.proofs.Common.{slice_get}
 use Rattle.std.specs.Prelude.{get_or}
 use Rattle.vm_base.specs.declared.replies.Reply.{Reply}
-use Rattle.vm_base.specs.Places.{IsFirstPlace, PlaceRule}
+use Rattle.vm_base.specs.Places.{PlaceRule}
 use Rattle.audit.specs.declared.auditor.Call.{Call}
 use Rattle.audit.specs.declared.auditor.Wrong.{Wrong}
 use Rattle.audit.specs.declared.judging.ReplyVerdict.TheVariants.{Illegal}
@@ -48,7 +49,7 @@ wrong_next rule t m u cs at c due l is h judged = record {
   is_call = call_at cs at c l is;
   before = subst (AreReplies rule t (take at cs)) (sym judged.2) h;
   none = subst (λ x. (v : Plain) → ¬ Answers rule x c.core c.request c.reply v) (sym judged.2) judged.0;
-  due = subst (λ x. (v : Plain) × Answers IsFirstPlace x c.core c.request due v) (sym judged.2) judged.1;
+  due = subst (λ x. IsGiven rule x c.core c.request due) (sym judged.2) judged.1;
 }
 
 -- the calls lead to one map

@@ -1,5 +1,6 @@
 -- The test whether an access would be served
-use Rattle.slot_lock.proofs.Words.{◌≡◌, ◌↔◌, ℕ, Bool, true, false, Option, Some, None, is_some, refl, sym, ◌∙◌, ap, PageInfo, Bytes, PageEntry, File, Plain, bytes_of, Request, Mmap, Munmap}
+use Rattle.slot_lock.proofs.Words.{◌≡◌, ◌↔◌, ℕ, Bool, true, false, Option, Some, None, is_some, refl, sym, ◌∙◌, ap, PageInfo, Bytes, PageEntry, File}
+use Rattle.slot_lock.proofs.Words.{Plain, bytes_of, Request, Mmap, Munmap}
 use Rattle.slot_lock.proofs.Words.{Mprotect, Access, Load, Store, Fetch}
 use Rattle.std.specs.Prelude.{◌&&◌}
 use Rattle.vm_base.specs.declared.requests.Request.TheVariants.{Load as LoadOf, Store as StoreOf, Fetch as FetchOf}

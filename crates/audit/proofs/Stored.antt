@@ -1,5 +1,6 @@
 -- The plain page map that is kept, once a byte was stored
-use Rattle.slot_lock.proofs.Words.{◌≡◌, ◌≢◌, ℕ, ◌<◌, ◌⊎◌, inl, inr, Bool, true, false, List, Option, Some, None, Result, Ok, Err, OnOk, is_some, refl, sym, ◌∙◌, ap, subst}
+use Rattle.slot_lock.proofs.Words.{◌≡◌, ◌≢◌, ℕ, ◌<◌, ◌⊎◌, inl, inr, Bool, true, false, List, Option, Some, None, Result, Ok, Err, OnOk, is_some, refl}
+use Rattle.slot_lock.proofs.Words.{sym, ◌∙◌, ap, subst}
 use Rattle.slot_lock.proofs.Words.{if◌then◌else◌, IfSome, fun_ext, Back, Anon, Shared, Private, PageInfo, Mode, Prot, put, frame_of, Bytes, PageEntry, File}
 use Rattle.slot_lock.proofs.Words.{Plain, bytes_of, eq_true, eq_false, put_same, put_other}
 use Rattle.std.specs.Prelude.{OnErr, cond, ◌==◌, nat_lt}

@@ -4,7 +4,7 @@ use Rattle.vm_base.specs.declared.replies.Reply.{Reply}
 use Rattle.vm_base.specs.declared.replies.Reply.TheVariants.{Done}
 use Rattle.vm_base.specs.declared.requests.Request.{Request}
 use Rattle.vm_base.specs.Plain.{Plain, mode_of}
-use Rattle.vm_base.specs.Places.{PlaceRule, IsFirstPlace}
+use Rattle.vm_base.specs.Places.{PlaceRule}
 use Rattle.vm_base.specs.Apply.{detached, stored_entry}
 use Rattle.vm_base.specs.Answers.{Answers}
 use Rattle.vm_base.specs.Copies.{or_else}
@@ -17,17 +17,16 @@ use Rattle.audit.specs.declared.auditor.Wrong.{Wrong}
 use Rattle.audit.specs.declared.judging.ReplyVerdict.{ReplyVerdict}
 use Rattle.audit.specs.declared.judging.ReplyVerdict.TheVariants.{Legal, Illegal}
 
--- A reply is legal where it is the plain map's, and then u is what it leaves. Else no plain map has that
--- reply, the first one is told in its place, and u is the map as it was.
-abbrev pub Judges : PlaceRule → Plain → ℕ → Request → Reply → ReplyVerdict → Plain → Type 0
-Judges rule t core request y Legal u = Answers rule t core request y u
-Judges rule t core request y (Illegal first) u =
-    ((v : Plain) → ¬ Answers rule t core request y v)
-    × ((v : Plain) × Answers IsFirstPlace t core request first v) × (u ≡ t)
-
 -- some plain map gives this reply
 abbrev pub IsGiven : PlaceRule → Plain → ℕ → Request → Reply → Type 0
 IsGiven rule t core request y = (u : Plain) × Answers rule t core request y u
+
+-- A reply is legal where it is the plain map's, and then u is what it leaves. Else no plain map has that
+-- reply, one that some plain map has is told in its place, and u is the map as it was.
+abbrev pub Judges : PlaceRule → Plain → ℕ → Request → Reply → ReplyVerdict → Plain → Type 0
+Judges rule t core request y Legal u = Answers rule t core request y u
+Judges rule t core request y (Illegal due) u =
+    ((v : Plain) → ¬ Answers rule t core request y v) × IsGiven rule t core request due × (u ≡ t)
 
 -- The replies of the calls, one after another, are the plain map's, from t on, and leave u.
 abbrev pub AreReplies : PlaceRule → Plain → List Call → Plain → Type 0
@@ -35,15 +34,15 @@ AreReplies rule t [] u = u ≡ t
 AreReplies rule t (c ∷ cs) u =
     (m : Plain) × Answers rule t c.core c.request c.reply m × AreReplies rule m cs u
 
--- The replies of so many calls are, and leave u; in u no plain map gives the next one's reply, and the
--- first one gives another.
+-- The replies of so many calls are, and leave u; in u no plain map gives the next one's reply, and some
+-- plain map gives another.
 pub record IsFirstWrong (rule : PlaceRule) (t : Plain) (calls : List Call) (wrong : Wrong) (u : Plain)
     : Type 0 where
   pub call : Call
   pub is_call : slice_get calls wrong.at ≡ Some call
   pub before : AreReplies rule t (take wrong.at calls) u
   pub none : (v : Plain) → ¬ Answers rule u call.core call.request call.reply v
-  pub due : (v : Plain) × Answers IsFirstPlace u call.core call.request wrong.due v
+  pub due : IsGiven rule u call.core call.request wrong.due
 
 -- The replies of so many calls are, and leave u; memory was wanting for the next, whose reply some plain map gives.
 pub record IsWanting (rule : PlaceRule) (t : Plain) (calls : List Call) (u : Plain) : Type 0 where

@@ -30,7 +30,7 @@ pub struct Call {
 pub struct Wrong {
     /// How many calls come before it, all of whose replies are legal.
     pub at: usize,
-    /// What the first plain page map would give.
+    /// What a plain page map would give.
     pub due: Reply,
 }
 
@@ -148,6 +148,13 @@ impl<M: SlotMap, A: Allocator> Auditor<M, A> {
         ensures any_place { self.new.any_place ≡ self.old.any_place }
     {
         copy_page(&mut self.map, &self.objects, &mut self.frames, page)
+    }
+
+    /// Whether a mapping without `MAP_FIXED` may have any place.
+    pub fn any_place(&self) -> bool
+        ensures { result ≡ self.now.any_place }
+    {
+        self.any_place
     }
 
     /// Tells whether the request is an access that would be served: of a mapped page that has bytes, and whose protection allows

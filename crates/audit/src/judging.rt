@@ -12,7 +12,7 @@ ghost use Rattle.audit.specs.Judging.{Compares, GivesPlan, JudgesPlan};
 
 use crate::bytes::access_reply;
 use crate::changing::{change_alone, free_alone, make_change};
-use crate::placing::{first_place, is_allowed, place_said, reply_at};
+use crate::placing::{due_place, is_allowed, place_said, reply_at};
 use crate::storing::store;
 use frames::{Frames, Objects};
 use slot_lock::{Change, FreePage, Goal, Place, Plan, SlotMap, Touch};
@@ -26,7 +26,7 @@ use vm_calls::{Decision, decide, decide_page};
 pub enum ReplyVerdict {
     /// It is the plain page map's.
     Legal,
-    /// No plain page map gives it. The first one would give this.
+    /// No plain page map gives it. One would give this.
     Illegal(Reply),
 }
 
@@ -195,10 +195,10 @@ fn judge_place<M: SlotMap, A: Allocator>(
 {
     let said = place_said(reply);
     let Some(found) = said else {
-        return Ok(ReplyVerdict::Illegal(reply_at(first_place(map, place))));
+        return Ok(ReplyVerdict::Illegal(reply_at(due_place(map, any_place, place))));
     };
     if !is_allowed(map, any_place, place, found) {
-        return Ok(ReplyVerdict::Illegal(reply_at(first_place(map, place))));
+        return Ok(ReplyVerdict::Illegal(reply_at(due_place(map, any_place, place))));
     }
     let Some(first) = found else {
         return Ok(ReplyVerdict::Legal);

@@ -39,6 +39,23 @@ pub fn first_place<M: SlotMap>(map: &M, place: Place) -> Option<u64>
     map.first_free_run(place.window, place.count)
 }
 
+/// A place where a mapping may be: the first one; or, where any will do and that is none, the least of all valid pages.
+#[tactic(auto, using(crate::proofs::Placed::first_allowed, crate::proofs::Placed::first_by_rule, crate::proofs::Placed::least_allowed))]
+pub fn due_place<M: SlotMap>(map: &M, any_place: bool, place: Place) -> Option<u64>
+    requires sound { IsSoundPlace place }
+    ensures allowed { IsAllowed any_place (is_mapped (entries (M.slots map.now))) place result }
+    ensures within { IfSome result (λ first. IsPageRange (pages_from first place.count)) }
+{
+    let first = first_place(map, place);
+    if !any_place {
+        return first;
+    }
+    match first {
+        Some(_) => first,
+        None => map.first_free_run(ALL_PAGES, place.count),
+    }
+}
+
 /// Tells whether no run of this many valid pages is free.
 fn has_no_room<M: SlotMap>(map: &M, count: u64) -> bool
     requires some { 1 ≤ count }

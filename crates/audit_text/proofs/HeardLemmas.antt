@@ -1,17 +1,17 @@
 -- What hearing a line comes to.
-use Rattle.std.proofs.Common.{◌≡◌, ℕ, zero, suc, ◌+◌, arith, Bool, true, false, not, cond, inl, inr, List, [], ◌∷◌, ◌++◌, Option, Some, None, is_some}
+use Rattle.std.proofs.Common.{◌≡◌, ℕ, zero, suc, ◌+◌, arith, Bool, true, false, not, cond, ◌⊎◌, inl, inr, List, [], ◌∷◌, ◌++◌, Option, Some, None, is_some}
 use Rattle.std.proofs.Common.{refl, sym, ap, ◌∙◌, subst, Result, Ok, Err, OnErr}
 use Rattle.std.specs.Prelude.{◌&&◌, option_map, replicate, set}
 use Rattle.vm_base.specs.Plain.{Plain}
 use Rattle.vm_base.specs.declared.replies.Reply.{Reply}
 use Rattle.vm_base.specs.declared.requests.Request.{Request}
-use Rattle.audit.proofs.Judged.{one_first}
+use Rattle.audit.proofs.Judged.{one_first, placed_due, swap_named}
 use Rattle.audit.specs.Judging.{IsGiven, Judges}
 use Rattle.audit.specs.Placing.{rule_of}
 use Rattle.audit.specs.declared.auditor.Call.{Call}
 use Rattle.audit.specs.declared.judging.ReplyVerdict.{ReplyVerdict}
 use Rattle.audit.specs.declared.judging.ReplyVerdict.TheVariants.{Legal as Right, Illegal as Wrong}
-use Rattle.audit_text.specs.Allowed.{Allows, AreAllowed, Lacks, MayBe, is_lack, serves}
+use Rattle.audit_text.specs.Allowed.{Allows, AreAllowed, Lacks, MayBe, is_lack, is_lacking, is_unplaced, places, serves}
 use Rattle.audit_text.specs.Heard.{Heard, call_to, item_told, heard_after, is_certain, nothing, one_passed, waits, with_answer, with_copy, with_item, with_told}
 use Rattle.audit_text.specs.Heard.{with_waiting, without}
 use Rattle.audit_text.specs.Steps.{Hears, JudgesCall, MayWant, Moves, Passes}
@@ -25,7 +25,12 @@ use Rattle.audit_text.specs.declared.reading.Said.{Said}
 use Rattle.audit_text.specs.declared.reading.Said.TheVariants as Of
 use Rattle.vm_base.specs.Answers.{Answers}
 use Rattle.vm_base.specs.Places.{IsFirstPlace}
-use Rattle.vm_base.specs.declared.replies.Reply.TheVariants.{NoFrame, NoMemory}
+use Rattle.vm_base.specs.declared.replies.Reply.TheVariants.{Mapped, NoFrame, NoMemory, Refused}
+use Rattle.vm_base.specs.declared.replies.Errno.{Errno}
+use Rattle.vm_base.specs.declared.replies.Errno.TheVariants.{ENOMEM}
+use Rattle.vm_base.specs.declared.requests.Request.TheVariants.{Fetch, Load, Mmap, Mprotect, Munmap, Store}
+use Rattle.vm_base.specs.Copies.{page_copied, with_copy as map_copied}
+use Rattle.vm_base.specs.Requests.{is_placed}
 
 none_more : {X : Type 0} (x : X) (n : ℕ) → replicate n x ++ x ∷ [] ≡ replicate (n + 1) x
 none_more x zero = refl
@@ -38,29 +43,76 @@ one_waiting n next old new up is was = is ∙ ap (λ l. l ++ None ∷ []) was �
 
 -- nothing is heard at first
 pub nothing_heard : (ws : List (Option Request)) (items : List AuditItem) → ws ≡ replicate 64 None → items ≡ []
-    → record { waiting = ws; pending = 0; items = items; calls = 0; lacking = 0; passed = 0; is_sure = true } ≡ nothing
+    → record { waiting = ws; pending = 0; items = items; calls = 0; lacking = 0; unplaced = 0; passed = 0; is_sure = true } ≡ nothing
 nothing_heard ws items e f =
-    ap (λ (x : List (Option Request)). record { waiting = x; pending = 0; items = items; calls = 0; lacking = 0; passed = 0; is_sure = true }) e
-    ∙ ap (λ (x : List AuditItem). record { waiting = replicate 64 None; pending = 0; items = x; calls = 0; lacking = 0; passed = 0; is_sure = true }) f
+    ap (λ (x : List (Option Request)). record { waiting = x; pending = 0; items = items; calls = 0; lacking = 0; unplaced = 0; passed = 0; is_sure = true }) e
+    ∙ ap (λ (x : List AuditItem).
+    record { waiting = replicate 64 None; pending = 0; items = x; calls = 0; lacking = 0; unplaced = 0; passed = 0; is_sure = true }) f
 
 pub same_terms : (terms : Terms) (any_place : Bool) → any_place ≡ terms.any_place → record terms { any_place = any_place } ≡ terms
 same_terms terms any_place e = ap (λ b. record terms { any_place = b }) e
 
 -- ---- want of a frame or of memory
 
-is_lack_served : (t : Plain) (core : ℕ) (request : Request) (due : Reply) (v u : Plain) (reply : Reply) → Answers IsFirstPlace t core request due v
-    → is_lack request due reply ≡ true → u ≡ t → Lacks t core request reply u
-is_lack_served t core request due v u NoFrame a e same = ((due, v, e, a), same)
-is_lack_served t core request due v u NoMemory a e same = same
-is_lack_served t core request due v u reply a e same = absurd (cc)
+-- what is served is an access, whose answers no rule of places concerns
+served_named : (request : Request) (due : Reply) → serves request due ≡ true → is_placed request ≡ false
+served_named (Load addr) due e = refl
+served_named (Store addr byte) due e = refl
+served_named (Fetch addr) due e = refl
+served_named (Mmap addr len prot flags file off) due e = absurd (cc)
+served_named (Munmap addr len) due e = absurd (cc)
+served_named (Mprotect addr len prot) due e = absurd (cc)
 
-served_is_lack : (t : Plain) (core : ℕ) (request : Request) (due : Reply) (v u : Plain) (reply : Reply) → Answers IsFirstPlace t core request due v
-    → Lacks t core request reply u → is_lack request due reply ≡ true
-served_is_lack t core request due v u NoFrame a ((other, w, serves_other, b), same) =
-    let one : other ≡ due = one_first t core request other due w v b a in
+by_first : (any : Bool) (t : Plain) (core : ℕ) (request : Request) (due : Reply) (v : Plain) → is_placed request ≡ false
+    → Answers (rule_of any) t core request due v → Answers IsFirstPlace t core request due v
+by_first any t core request due v named a =
+    swap_named (rule_of any) IsFirstPlace (map_copied t (page_copied t request due)) core request due v named a
+
+both_parts : (a b c : Bool) → (a && b && c) ≡ true → (a ≡ true) × (b ≡ true) × (c ≡ true)
+both_parts true true true e = (refl, refl, refl)
+both_parts true true false e = absurd (cc)
+both_parts true false c e = absurd (cc)
+both_parts false b c e = absurd (cc)
+
+placed_at : (due : Reply) → places due ≡ true → (addr : ℕ) × (due ≡ Mapped addr)
+placed_at (Mapped addr) e = (addr, refl)
+placed_at due e = absurd (cc)
+
+placed_lack : (any : Bool) (t : Plain) (core : ℕ) (request : Request) (due : Reply) (v u : Plain) → Answers (rule_of any) t core request due v
+    → (any && is_placed request && places due) ≡ true → u ≡ t → Lacks any t core request (Refused ENOMEM) u
+placed_lack any t core request due v u a e same =
+    let parts = both_parts any (is_placed request) (places due) e in
+    let at = placed_at due parts.2 in
+    let there = subst (λ (y : Reply). Answers (rule_of any) t core request y v) at.1 a in
+    (parts.0, refl, (parts.1, (at.0, v, subst (λ (b : Bool). Answers (rule_of b) t core request (Mapped at.0) v) parts.0 there)), same)
+
+is_lack_served : (any : Bool) (t : Plain) (core : ℕ) (request : Request) (due : Reply) (v u : Plain) (reply : Reply)
+    → Answers (rule_of any) t core request due v → is_lack any request due reply ≡ true → u ≡ t → Lacks any t core request reply u
+is_lack_served any t core request due v u NoFrame a e same =
+    ((due, v, e, by_first any t core request due v (served_named request due e) a), same)
+is_lack_served any t core request due v u NoMemory a e same = same
+is_lack_served any t core request due v u (Refused ENOMEM) a e same = placed_lack any t core request due v u a e same
+is_lack_served any t core request due v u reply a e same = absurd (cc)
+
+-- where the plain map doesn't have that reply
+served_is_lack : (any : Bool) (t : Plain) (core : ℕ) (request : Request) (due : Reply) (v u : Plain) (reply : Reply)
+    → ((m : Plain) → ¬ Answers (rule_of any) t core request reply m) → Answers (rule_of any) t core request due v
+    → Lacks any t core request reply u → is_lack any request due reply ≡ true
+served_is_lack any t core request due v u NoFrame none a ((other, w, serves_other, b), same) =
+    let first = by_first any t core request due v (served_named request other serves_other) a in
+    let one : other ≡ due = one_first t core request other due w v b first in
     subst (λ y. serves request y ≡ true) one serves_other
-served_is_lack t core request due v u NoMemory a same = refl
-served_is_lack t core request due v u reply a lacks = absurd lacks
+served_is_lack any t core request due v u NoMemory none a same = refl
+served_is_lack any t core request due v u (Refused e) none a (is_any, is_enomem, (placed, (addr, w, b)), same) =
+    subst (λ (x : Errno). is_lack any request due (Refused x) ≡ true) (sym is_enomem)
+    (subst (λ (x : Bool). (x && is_placed request && places due) ≡ true) (sym is_any)
+    (subst (λ (x : Bool). (true && x && places due) ≡ true) (sym placed) (by
+    (placed_due any t core request addr due w v placed (subst (λ (x : Bool). Answers (rule_of x) t core request (Mapped addr) w) (sym is_any) b) a))))
+  where
+    by : ((at : ℕ) × (due ≡ Mapped at)) ⊎ (due ≡ Refused ENOMEM) → places due ≡ true
+    by (inl (at, is)) = ap places is
+    by (inr is) = absurd (none v (subst (λ (y : Reply). Answers (rule_of any) t core request y v) (is ∙ ap Refused (sym is_enomem)) a))
+served_is_lack any t core request due v u reply none a lacks = absurd lacks
 
 not_let : (strict lack : Bool) → (not strict && lack) ≡ false → strict ≡ false → lack ≡ true → ⊥
 not_let strict lack e s l = let lacks_not : lack ≡ false = ap (λ b. not b && lack) (sym s) ∙ e in absurd (cc)
@@ -79,16 +131,16 @@ judged_legal terms h k t u certain call v j is e =
 
 pub judged_let : (terms : Terms) (h k : Heard) (t u : Plain) (certain : Bool) (call : Call) (v : ReplyVerdict) (due : Reply)
     → Judges (rule_of terms.any_place) t call.core call.request call.reply v u → v ≡ Wrong due
-    → (not terms.is_strict && is_lack call.request due call.reply) ≡ true → k ≡ with_answer h certain call
+    → (not terms.is_strict && is_lack terms.any_place call.request due call.reply) ≡ true → k ≡ with_answer h certain call
     → JudgesCall terms h t certain call Legal k u
 judged_let terms h k t u certain call v due j is lets e =
     let w = subst (λ (x : ReplyVerdict). Judges (rule_of terms.any_place) t call.core call.request call.reply x u) is j in
-    let both = not_parts terms.is_strict (is_lack call.request due call.reply) lets in
-    (e, inr (both.0, is_lack_served t call.core call.request due w.1.0 u call.reply w.1.1 both.1 w.2))
+    let both = not_parts terms.is_strict (is_lack terms.any_place call.request due call.reply) lets in
+    (e, inr (both.0, is_lack_served terms.any_place t call.core call.request due w.1.0 u call.reply w.1.1 both.1 w.2))
 
 pub judged_illegal : (terms : Terms) (h k : Heard) (t u : Plain) (certain : Bool) (call : Call) (v : ReplyVerdict) (due : Reply)
     → Judges (rule_of terms.any_place) t call.core call.request call.reply v u → v ≡ Wrong due
-    → (not terms.is_strict && is_lack call.request due call.reply) ≡ false → k ≡ h
+    → (not terms.is_strict && is_lack terms.any_place call.request due call.reply) ≡ false → k ≡ h
     → JudgesCall terms h t certain call (Illegal (Answer call) (Some due) certain) k u
 judged_illegal terms h k t u certain call v due j is lets e =
     let w = subst (λ (x : ReplyVerdict). Judges (rule_of terms.any_place) t call.core call.request call.reply x u) is j in
@@ -98,8 +150,8 @@ judged_illegal terms h k t u certain call v due j is lets e =
         → (m : Plain) → ¬ Allows terms t call.core call.request call.reply m
     none w m (inl a) = w.0 m a
     none w m (inr (s, lacks)) =
-        not_let terms.is_strict (is_lack call.request due call.reply) lets s
-        (served_is_lack t call.core call.request due w.1.0 m call.reply w.1.1 lacks)
+        not_let terms.is_strict (is_lack terms.any_place call.request due call.reply) lets s
+        (served_is_lack terms.any_place t call.core call.request due w.1.0 m call.reply w.0 w.1.1 lacks)
 
 -- ---- a call that is answered at once
 

@@ -8,7 +8,7 @@ use Rattle.audit_text.specs.Allowed.{AreAllowed}
 use Rattle.audit_text.specs.Ends.{IsAtFault}
 use Rattle.audit_text.specs.Faults.{SaysNothing}
 use Rattle.audit_text.specs.Grammar.{Tells}
-use Rattle.audit_text.specs.Heard.{Declared, Heard, Stage, Front, Behind, Leads, behind, is_certain, needs_space, stage_after, undeclared}
+use Rattle.audit_text.specs.Heard.{Declared, Heard, Stage, Front, Behind, Leads, behind, is_certain, lacking_by, needs_space, stage_after, undeclared}
 use Rattle.audit_text.specs.Legal.{Follows, HasSpaceFor, IsLegal, IsPlace, IsWrong, first_map, heard_in}
 use Rattle.audit_text.specs.Steps.{EndsFront, HasEnded, Hears, IsAtLine, IsCall, IsFound, IsRefused, IsWanting, MayWant, TurnsOut}
 use Rattle.audit_text.proofs.HeardLemmas.{moves_on}
@@ -138,10 +138,10 @@ call_next terms lines rest more d h k t u said other n m line c hears e says up 
       follows = follows;
     }
 
-pub call_last : (terms : Terms) (lines rest : List (List ℕ)) (d : Declared) (h k : Heard) (t u : Plain) (said : Said) (n judged : ℕ)
-    → IsCall terms lines d h t said n rest → Hears terms h t said Legal k u → rest ≡ [] → judged ≡ k.calls
-    → IsLegal terms lines judged k.lacking k.passed
-call_last terms lines rest d h k t u said n judged c hears e counted =
+pub call_last : (terms : Terms) (lines rest : List (List ℕ)) (d : Declared) (h k : Heard) (t u : Plain) (said : Said) (n judged lacking : ℕ)
+    → IsCall terms lines d h t said n rest → Hears terms h t said Legal k u → rest ≡ [] → judged ≡ k.calls → lacking ≡ lacking_by terms k
+    → IsLegal terms lines judged lacking k.passed
+call_last terms lines rest d h k t u said n judged lacking c hears e counted lacked =
     let (place, follows) = after_legal terms lines rest d h k t u said n c hears in
     let all : place.done ≡ lines = sym (place.is ∙ ap (λ l. place.done ++ l) e ∙ append-nil place.done) in
     record {
@@ -151,7 +151,7 @@ call_last terms lines rest d h k t u said n judged c hears e counted =
       space = c.space;
       replies = follows;
       calls_are = counted;
-      lacking_are = refl;
+      lacking_are = lacked;
       passed_are = refl;
     }
 

@@ -1,5 +1,6 @@
 -- One line after another, also after replies that are wrong.
-use Rattle.std.proofs.Common.{◌≡◌, ◌⊎◌, inl, inr, ℕ, zero, suc, ◌+◌, ◌≤◌, Bool, true, false, cond, List, [], ◌∷◌, ◌++◌, length, Option, Some, None, Result, Ok, Err}
+use Rattle.std.proofs.Common.{◌≡◌, ◌⊎◌, inl, inr, ℕ, zero, suc, ◌+◌, ◌≤◌, Bool, true, false, cond, List, [], ◌∷◌, ◌++◌, length, Option, Some, None}
+use Rattle.std.proofs.Common.{Result, Ok, Err}
 use Rattle.std.proofs.Common.{append_assoc, append-nil, length-append, arith, refl, sym, ap, ◌∙◌, subst}
 use Rattle.vm_base.specs.Plain.{Plain}
 use Rattle.vm_base.specs.declared.replies.Reply.{Reply}
@@ -9,9 +10,9 @@ use Rattle.audit_text.specs.Ends.{IsAtFault}
 use Rattle.audit_text.specs.Faults.{SaysNothing}
 use Rattle.audit_text.specs.Grammar.{Tells}
 use Rattle.audit_text.specs.Heard.{Declared, Heard, Stage, Front, Behind, Leads, behind, item_told, heard_after, is_certain, nothing, stage_after, undeclared}
-use Rattle.audit_text.specs.Heard.{with_item}
+use Rattle.audit_text.specs.Heard.{lacking_by, with_item}
 use Rattle.audit_text.specs.Legal.{IsPlace, first_map, heard_in, told_at}
-use Rattle.std.specs.Prelude.{IfErr, OnOk}
+use Rattle.std.specs.Prelude.{◌&&◌, IfErr, OnOk, if◌then◌else◌, not}
 use Rattle.audit_text.specs.Reviewed.GoesOn.{there}
 use Rattle.audit_text.specs.Reviewed.{GoesOn, GoesOnBy, IsReviewed, IsThere, IsTextAtFault, Reviews, Turns, TurnsBy, wrong_at}
 use Rattle.audit_text.specs.Reviewing.{IsBefore, TurnsOutSo}
@@ -172,7 +173,7 @@ before_next terms lines rest more d h k t u found new said other n m line b turn
 
 pub before_last : (terms : Terms) (lines rest : List (List ℕ)) (d : Declared) (h k : Heard) (t u : Plain) (found new : List Verdict) (said : Said)
     (n judged : ℕ) → IsBefore terms lines d h t found said n rest → TurnsOutSo {T = Unit {0}} terms h t said n found (Ok tt) k u new → rest ≡ []
-    → judged ≡ k.calls → IsReviewed terms lines new judged k.lacking
+    → judged ≡ k.calls → IsReviewed terms lines new judged (lacking_by terms k)
 before_last terms lines rest d h k t u found new said n judged b turns e counted =
     let a = heard_line terms lines rest d h k t u found new said n b turns in
     record {
@@ -270,6 +271,13 @@ before_first terms lines more d h t found said n (at, ended, needs) space new fi
   heard = sym new;
 }
 
+none_lack : (terms : Terms) → 0 ≡ lacking_by terms nothing
+none_lack terms = go (terms.any_place && not terms.is_strict)
+  where
+    go : (b : Bool) → ◌≡◌ {A = ℕ} 0 (if b then 0 else 0)
+    go true = refl
+    go false = refl
+
 pub reviewed_none : (terms : Terms) (lines : List (List ℕ)) (d : Declared) (n : ℕ) → IsPlace lines n [] (Front d) → d.has_space ≡ true
     → IsReviewed terms lines [] 0 0
 reviewed_none terms lines d n p space = record {
@@ -283,7 +291,7 @@ reviewed_none terms lines d n p space = record {
   plain = first_map d;
   reviews = (refl, refl, refl);
   calls_are = refl;
-  lacking_are = refl;
+  lacking_are = none_lack terms;
 }
 
 pub text_fault : (terms : Terms) (lines : List (List ℕ)) (f : AuditFault) → IsAtFault terms lines f → IsTextAtFault lines f

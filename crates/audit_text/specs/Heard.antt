@@ -1,5 +1,5 @@
 -- What the lines of a text say, one after another.
-use Rattle.std.specs.Prelude.{◌≡◌, ℕ, suc, ◌-◌, ◌≤◌, ◌==◌, ◌&&◌, nat_le, nat_lt, not, Bool, true, false, List, [], ◌∷◌, ◌++◌, length, get_or, set}
+use Rattle.std.specs.Prelude.{◌≡◌, ℕ, suc, ◌+◌, ◌-◌, ◌≤◌, ◌==◌, ◌&&◌, nat_le, nat_lt, not, Bool, true, false, List, [], ◌∷◌, ◌++◌, length, get_or, set}
 use Rattle.std.specs.Prelude.{replicate, Option, None, Some, is_some, option_map, if◌then◌else◌}
 use Rattle.vm_base.specs.declared.requests.Request.{Request}
 use Rattle.vm_base.specs.declared.replies.Reply.{Reply}
@@ -8,7 +8,8 @@ use Rattle.trace_text.specs.Line.{seeded}
 use Rattle.audit.specs.declared.auditor.Call.{Call}
 use Rattle.audit_text.specs.declared.item.AuditItem.{AuditItem}
 use Rattle.audit_text.specs.declared.item.AuditItem.TheVariants.{Answer, Copy}
-use Rattle.audit_text.specs.Allowed.{is_given_up, is_lacking, is_store}
+use Rattle.audit_text.specs.Allowed.{is_given_up, is_lacking, is_store, is_unplaced}
+use Rattle.audit_text.specs.declared.allowing.Terms.{Terms}
 use Rattle.audit_text.specs.Grammar.{Tells}
 use Rattle.audit_text.specs.declared.reading.Said.{Said}
 use Rattle.audit_text.specs.declared.reading.Said.TheVariants.{Blank, Space, File, Answered, Waits, Ends, StillWaits, Copies, Passes}
@@ -41,19 +42,21 @@ needs_space said = true
 -- ---- the calls
 
 -- What the call of each core asks for that waits, and how many wait; the calls that were answered, in order of their replies,
--- and the copies between them; how many calls these are, and how many of them found no frame or no memory; how many lines were
--- passed over; and whether so far no other order of the calls, and no other map, can be behind these replies.
+-- and the copies between them; how many calls these are, how many of them found no frame or no memory, and how many were mappings without
+-- MAP_FIXED that were refused for want of memory; how many lines were passed over; and whether so far no other order of the calls, and no
+-- other map, can be behind these replies.
 pub record Heard : Type 0 where
   pub waiting : List (Option Request)
   pub pending : ℕ
   pub items : List AuditItem
   pub calls : ℕ
   pub lacking : ℕ
+  pub unplaced : ℕ
   pub passed : ℕ
   pub is_sure : Bool
 
 abbrev pub nothing : Heard
-nothing = record { waiting = replicate 64 None; pending = 0; items = []; calls = 0; lacking = 0; passed = 0; is_sure = true }
+nothing = record { waiting = replicate 64 None; pending = 0; items = []; calls = 0; lacking = 0; unplaced = 0; passed = 0; is_sure = true }
 
 abbrev pub waits : Heard → ℕ → Option Request
 waits h core = get_or h.waiting core None
@@ -85,8 +88,13 @@ with_answer h certain call = record h {
   items = h.items ++ Answer call ∷ [];
   calls = suc h.calls;
   lacking = if is_lacking call.reply then suc h.lacking else h.lacking;
+  unplaced = if is_unplaced call.request call.reply then suc h.unplaced else h.unplaced;
   is_sure = certain && not (is_store call.request && is_given_up call.reply);
 }
+
+-- how many calls found no frame or no memory by these terms: where any place will do, the refused mappings are among them
+abbrev pub lacking_by : Terms → Heard → ℕ
+lacking_by terms h = if terms.any_place && not terms.is_strict then h.lacking + h.unplaced else h.lacking
 
 -- with a copy
 abbrev pub with_copy : Heard → Bool → ℕ → Heard

@@ -14,6 +14,7 @@ use Rattle.audit_text.specs.Allowed.{AreAllowed, IsDue, MayBe}
 use Rattle.audit_text.specs.Around.{IsAround}
 use Rattle.audit_text.specs.Grammar.{Tells}
 use Rattle.audit_text.specs.Heard.{Declared, Heard, Stage, Front, Behind, Leads, item_told, is_certain, needs_space, nothing, stage_after, undeclared}
+use Rattle.audit_text.specs.Heard.{lacking_by}
 use Rattle.audit_text.specs.declared.allowing.Terms.{Terms}
 use Rattle.audit_text.specs.declared.reading.Said.{Said}
 
@@ -42,7 +43,7 @@ pub record IsLegal (terms : Terms) (lines : List (List ℕ)) (calls lacking pass
   pub space : (declared_in stage).has_space ≡ true
   pub replies : Follows terms stage plain
   pub calls_are : calls ≡ (heard_in stage).calls
-  pub lacking_are : lacking ≡ (heard_in stage).lacking
+  pub lacking_are : lacking ≡ lacking_by terms (heard_in stage)
   pub passed_are : passed ≡ (heard_in stage).passed
 
 -- ---- the first line that isn't
@@ -71,7 +72,7 @@ abbrev pub page_told : AuditItem → ℕ
 page_told (Answer call) = page_asked call.request
 page_told (Copy page) = page
 
--- The lines before this one are legal, and lead to this map. It tells a reply that may not be there, and the first plain page map
+-- The lines before this one are legal, and lead to this map. It tells a reply that may not be there, and a plain page map
 -- gives another; or a copy that may not be. Whether that is certain is told, too.
 pub record IsWrong (terms : Terms) (lines : List (List ℕ)) (number : ℕ) (item : AuditItem) (due : Option Reply) (certain : Bool) (plain : Plain)
     : Type 0 where
@@ -87,7 +88,7 @@ pub record IsWrong (terms : Terms) (lines : List (List ℕ)) (number : ℕ) (ite
   pub tells : Tells said line
   pub told : told_at stage said ≡ Some item
   pub none : (v : Plain) → ¬ MayBe terms plain item v
-  pub other : IsDue plain item due
+  pub other : IsDue terms plain item due
   pub certain_is : certain ≡ is_certain (heard_in stage) said
 
 -- and these mappings are around its page

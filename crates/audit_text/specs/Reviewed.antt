@@ -1,5 +1,6 @@
 -- An audit that goes on after wrong replies, and tells each one.
-use Rattle.std.specs.Prelude.{◌≡◌, ◌⊎◌, ℕ, suc, ◌+◌, ◌<◌, ◌≤◌, ◌==◌, ◌||◌, ⊤, Bool, true, false, List, [], ◌∷◌, ◌++◌, length, Option, None, Some, Result, Ok, Err}
+use Rattle.std.specs.Prelude.{◌≡◌, ◌⊎◌, ℕ, suc, ◌+◌, ◌<◌, ◌≤◌, ◌==◌, ◌||◌, ⊤, Bool, true, false, List, [], ◌∷◌, ◌++◌, length, Option, None, Some}
+use Rattle.std.specs.Prelude.{Result, Ok, Err}
 use Rattle.std.specs.Prelude.{if◌then◌else◌}
 use Rattle.std.specs.List.{flat_map}
 use Rattle.std.specs.Io.KnownBytes.{Keeps, Appends}
@@ -20,7 +21,7 @@ use Rattle.audit_text.specs.declared.item.AuditItem.{AuditItem}
 use Rattle.audit_text.specs.declared.item.AuditItem.TheVariants.{Answer}
 use Rattle.audit_text.specs.Ends.{head_text}
 use Rattle.audit_text.specs.Grammar.{Tells}
-use Rattle.audit_text.specs.Heard.{Declared, Heard, Stage, Front, Leads, is_certain, stage_after, undeclared}
+use Rattle.audit_text.specs.Heard.{Declared, Heard, Stage, Front, Leads, is_certain, lacking_by, stage_after, undeclared}
 use Rattle.audit_text.specs.Legal.{IsMisplaced, IsPlace, LacksSpace, declared_in, first_map, heard_in, told_at}
 use Rattle.audit_text.specs.Steps.{IsRefused, Moves}
 use Rattle.audit_text.specs.declared.allowing.Terms.{Terms}
@@ -98,7 +99,7 @@ pub record IsReviewed (terms : Terms) (lines : List (List ℕ)) (found : List Ve
   pub plain : Plain
   pub reviews : Reviews terms (Front declared) (first_map declared) (length front) rest found stage plain
   pub calls_are : calls ≡ (heard_in stage).calls
-  pub lacking_are : lacking ≡ (heard_in stage).lacking
+  pub lacking_are : lacking ≡ lacking_by terms (heard_in stage)
 
 -- ---- faults: of lines, whatever replies stand before them
 

@@ -8,7 +8,8 @@ use Rattle.vm_base.specs.declared.replies.Reply.{Reply}
 use Rattle.vm_base.specs.Plain.{File, Plain, file_with}
 use Rattle.audit_text.specs.Allowed.{Allows, IsAllowed, IsDue, MayBe}
 use Rattle.audit_text.specs.Grammar.{Tells}
-use Rattle.audit_text.specs.Heard.{Declared, Heard, Stage, Front, behind, item_told, heard_after, is_certain, needs_space, nothing, one_passed, stage_after, with_answer, with_item}
+use Rattle.audit_text.specs.Heard.{Declared, Heard, Stage, Front, behind, item_told, heard_after, is_certain, needs_space, nothing, one_passed}
+use Rattle.audit_text.specs.Heard.{stage_after, with_answer, with_item}
 use Rattle.audit_text.specs.Legal.{Follows, HasSpaceFor, IsLegal, IsPlace, IsWrong, declared_in, heard_in, page_told, told_at}
 use Rattle.audit_text.specs.Around.{IsAround}
 use Rattle.slot_lock.specs.declared.map_list.MapLine.{MapLine}
@@ -56,6 +57,7 @@ heard_of it = record {
   items = it.items.items;
   calls = it.judged;
   lacking = it.lacking;
+  unplaced = it.unplaced;
   passed = it.passed;
   is_sure = it.is_sure;
 }
@@ -68,14 +70,14 @@ terms_of it = record { any_place = it.auditor.any_place; is_strict = it.is_stric
 abbrev pub count_of : {M A : Type 0} {map : MapGhosts M} {read : ReadGhosts M} → Hearing M A map read → ℕ
 count_of it = it.judged + it.passed + it.pending
 
--- each core has a place, and those without memory are some of the calls
+-- each core has a place, and those that lacked a frame, memory or a place are some of the calls
 pub record IsCounted {M A : Type 0} {map : MapGhosts M} {read : ReadGhosts M} (it : Hearing M A map read) : Type 0 where
   pub places : length it.waiting.items ≡ 64
-  pub lacking : it.lacking ≤ it.judged
+  pub lacking : it.lacking + it.unplaced ≤ it.judged
 
 -- this reply may not be there, or this copy
 abbrev pub IsRefused : Terms → Plain → AuditItem → Option Reply → Type 0
-IsRefused terms t item due = ((v : Plain) → ¬ MayBe terms t item v) × IsDue t item due
+IsRefused terms t item due = ((v : Plain) → ¬ MayBe terms t item v) × IsDue terms t item due
 
 -- what a line tells, if it tells something, may be, and leaves u
 abbrev pub Moves : Terms → Plain → Option AuditItem → Plain → Type 0

@@ -62,7 +62,7 @@ fn review_heard<M: SlotMap + Drop, A: Allocator + Drop>(
         Ok(()) => Ok(AuditReport {
             found,
             calls: hearing.judged,
-            lacking: hearing.lacking,
+            lacking: hearing.lacking_told(),
         }),
         Err(fault) => Err(fault),
     }

@@ -1,7 +1,7 @@
 //! The calls of a text, judged one after another, and those that wait.
 ghost use Rattle.std.specs.Prelude.{◌≡◌, None, IfOk, replicate};
 
-use crate::allowing::{Terms, is_lacking, is_let, may_copy};
+use crate::allowing::{Terms, is_lacking, is_let, is_unplaced, may_copy};
 use crate::item::AuditItem;
 use crate::reading::Said;
 use audit::{Auditor, Call, ReplyVerdict};
@@ -21,7 +21,7 @@ pub enum Turn {
     Legal,
     /// It may not stand here.
     Bad,
-    /// Its call may not have this reply, or it tells a copy that may not be. The first plain page map would give this, and
+    /// Its call may not have this reply, or it tells a copy that may not be. A plain page map would give this, and
     /// whether no other order of the calls, and no other map, can be after the lines so far.
     Illegal(AuditItem, Option<Reply>, bool),
 }
@@ -43,6 +43,8 @@ pub struct Hearing<M: SlotMap, A: Allocator> {
     pub judged: u64,
     /// How many of them found no frame or no memory.
     pub lacking: u64,
+    /// How many of them are mappings without `MAP_FIXED` that were refused for want of memory.
+    pub unplaced: u64,
     /// Whether no other order of them, and no other map, can explain their replies.
     pub is_sure: bool,
     /// How many lines were passed over.
@@ -101,6 +103,7 @@ impl<M: SlotMap + Drop, A: Allocator + Clone + Drop> Hearing<M, A> {
             items: GhostList::new(),
             judged: 0,
             lacking: 0,
+            unplaced: 0,
             is_sure: true,
             passed: 0,
         })
@@ -113,10 +116,33 @@ impl<M: SlotMap + Drop, A: Allocator + Drop> Hearing<M, A> {
     ghost use Rattle.audit.specs.Auditor.{plain_of};
     ghost use Rattle.audit.specs.Judging.{IsGiven};
     ghost use Rattle.audit.specs.Placing.{rule_of};
-    ghost use Rattle.audit_text.specs.Heard.{waits, with_answer, with_copy, with_item};
+    ghost use Rattle.audit_text.specs.Heard.{lacking_by, waits, with_answer, with_copy, with_item};
     ghost use Rattle.audit_text.specs.declared.item.AuditItem.{AuditItem};
     ghost use Rattle.audit_text.specs.Steps.{Hears, IsCounted, JudgesCall, MayWant, Passes, count_of, heard_of, terms_of};
     ghost use Rattle.audit_text.specs.declared.reading.Said.TheVariants as Of;
+
+    // By what replies are judged.
+    fn terms(&self) -> Terms
+        ensures { result ≡ terms_of self.now }
+    {
+        Terms {
+            any_place: self.auditor.any_place(),
+            is_strict: self.is_strict,
+        }
+    }
+
+    /// How many calls found no frame or no memory by the terms.
+    pub(crate) fn lacking_told(&self) -> u64
+        requires { IsCounted self.now }
+        ensures { result ≡ lacking_by (terms_of self.now) (heard_of self.now) }
+    {
+        let terms = self.terms();
+        if terms.any_place && !terms.is_strict {
+            self.lacking + self.unplaced
+        } else {
+            self.lacking
+        }
+    }
 
     // Tells whether no other order of the calls, and no other map, can explain the replies so far and the next one's, as which
     // at most so many calls wait.
@@ -139,6 +165,9 @@ impl<M: SlotMap + Drop, A: Allocator + Drop> Hearing<M, A> {
     {
         if is_lacking(call.reply) {
             self.lacking += 1;
+        }
+        if is_unplaced(call.request, call.reply) {
+            self.unplaced += 1;
         }
         self.is_sure = certain && !may_copy(call.request, call.reply);
         self.items = self.items.and(&AuditItem::Answer(call));
@@ -190,13 +219,14 @@ impl<M: SlotMap + Drop, A: Allocator + Drop> Hearing<M, A> {
         ensures still { (item : AuditItem) (due : Option Reply) (certain : Bool)
             → result ≡ Ok (Turn.Illegal item due certain) → count_of self.new ≤ count_of self.old }
     {
+        let terms = self.terms();
         match self.auditor.judge(call.core, call.request, call.reply)? {
             ReplyVerdict::Legal => {
                 self.note_answer(certain, call);
                 Ok(Turn::Legal)
             }
             ReplyVerdict::Illegal(due) => {
-                if is_let(self.is_strict, call.request, due, call.reply) {
+                if is_let(terms, call.request, due, call.reply) {
                     self.note_answer(certain, call);
                     return Ok(Turn::Legal);
                 }

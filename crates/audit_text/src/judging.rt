@@ -34,7 +34,7 @@ pub enum Verdict {
         line: u64,
         /// The call, with what the text says that it was answered, or the copy.
         item: AuditItem,
-        /// What the first plain page map would give; `None` for a copy.
+        /// What a plain page map would give; `None` for a copy.
         due: Option<Reply>,
     },
     /// The same, but another order of calls that overlapped, or another map, may be after the lines up to this one.
@@ -43,7 +43,7 @@ pub enum Verdict {
         line: u64,
         /// The call, with what the text says that it was answered, or the copy.
         item: AuditItem,
-        /// What the first plain page map would give; `None` for a copy.
+        /// What a plain page map would give; `None` for a copy.
         due: Option<Reply>,
     },
 }
@@ -101,7 +101,7 @@ pub(crate) fn hear_lines<M: SlotMap + Drop, A: Allocator + Drop>(
         if rest.is_empty() {
             return Ok(Verdict::Legal {
                 calls: hearing.judged,
-                lacking: hearing.lacking,
+                lacking: hearing.lacking_told(),
                 passed: hearing.passed,
             });
         }

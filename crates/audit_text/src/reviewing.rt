@@ -2,7 +2,7 @@
 ghost use Rattle.std.specs.Prelude.{◌≡◌, ◌+◌, ◌≤◌, ◌<◌, ◌^◌, ◌∷◌, ◌++◌, [], IfErr, IfOk, List, ℕ, OnOk, Some, length};
 ghost use Rattle.trace_io.specs.Lines.{lines_of};
 ghost use Rattle.audit.specs.Auditor.{plain_of};
-ghost use Rattle.audit_text.specs.Heard.{Declared, heard_after, with_item};
+ghost use Rattle.audit_text.specs.Heard.{Declared, heard_after, lacking_by, with_item};
 ghost use Rattle.audit_text.specs.Reviewed.{GoesOnBy, IsReviewed, IsTextAtFault, wrong_at};
 ghost use Rattle.audit_text.specs.Reviewing.{IsBefore, TurnsOutSo};
 ghost use Rattle.audit_text.specs.Steps.{IsCounted, count_of, heard_of, terms_of};
@@ -105,7 +105,10 @@ pub(crate) fn review_lines<M: SlotMap + Drop, A: Allocator + Drop, B: Allocator>
     requires room { number + length text.now < 2 ^ 64 }
     ensures ok { OnOk result ((lines : List (List ℕ)) (d : Declared)
         → IsBefore (terms_of hearing.old) lines d (heard_of hearing.old) (plain_of hearing.old.auditor) found.old.items first number
-        (lines_of text.now) → IsReviewed (terms_of hearing.old) lines found.new.items hearing.new.judged hearing.new.lacking) }
+        (lines_of text.now) → IsReviewed (terms_of hearing.old) lines found.new.items hearing.new.judged
+        (lacking_by (terms_of hearing.old) (heard_of hearing.new))) }
+    ensures counted { OnOk result (IsCounted hearing.new) }
+    ensures terms { OnOk result (terms_of hearing.new ≡ terms_of hearing.old) }
     ensures err { IfErr result (λ f. (lines : List (List ℕ)) (d : Declared)
         → IsBefore (terms_of hearing.old) lines d (heard_of hearing.old) (plain_of hearing.old.auditor) found.old.items first number
         (lines_of text.now) → IsTextAtFault lines f) }

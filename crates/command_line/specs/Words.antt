@@ -8,8 +8,8 @@ use Rattle.slot_lock.specs.Slots.{Slots}
 use Rattle.trace_io.specs.Io.{ReadFrom, WrittenTo}
 use Rattle.vm_base.specs.declared.page.PageRange.{PageRange}
 use Rattle.word_runs.specs.Words.{ReplaysTrace, EchoesTrace, CertifiesNotes, RunsScript, WritesHistory, CertifiesRun, SharesScript}
-use Rattle.word_import.specs.Words.{ImportsLog, ImportsEach, ImportsAccesses}
-use Rattle.word_audit.specs.Words.{AuditsReplies, ReviewsReplies, JudgesOrGivesUp, JudgesByKernel, JudgesByPages, JudgesLoosely}
+use Rattle.word_import.specs.Words.{ImportsLog, ImportsReplies, ImportsEach, ImportsAccesses}
+use Rattle.word_audit.specs.Words.{AuditsReplies, ReviewsReplies, JudgesOrGivesUp, JudgesByKernel}
 use Rattle.word_pictures.specs.Words.{PicturesTrace}
 
 -- what the words ask for: an import reads a list besides, a litmus test counts, and the others nothing
@@ -23,13 +23,12 @@ DoesWork A parts CanFold Folds (For.CertifyLive sums) list text out n = Certifie
 DoesWork A parts CanFold Folds (For.LiveHistory sums) list text out n = WritesHistory text out n
 DoesWork A parts CanFold Folds For.ShareLive list text out n = SharesScript text out n
 DoesWork A parts CanFold Folds (For.Import choice) list text out n = ImportsLog choice list text out n
+DoesWork A parts CanFold Folds (For.ImportReplies choice several) list text out n = ImportsReplies choice several list text out n
 DoesWork A parts CanFold Folds For.ImportEach list text out n = ImportsEach text n × (out.after ≡ out.before)
 DoesWork A parts CanFold Folds For.ImportAccesses list text out n = ImportsAccesses text out n
 DoesWork A parts CanFold Folds (For.Audit terms) list text out n = AuditsReplies terms text out n
 DoesWork A parts CanFold Folds (For.AuditAll terms) list text out n = ReviewsReplies terms text out n
 DoesWork A parts CanFold Folds (For.Overlapping overlaps) list text out n = JudgesOrGivesUp A overlaps.any_place text out n
-DoesWork A parts CanFold Folds (For.ByPages overlaps) list text out n = JudgesByPages A overlaps.any_place text out n
-DoesWork A parts CanFold Folds (For.Loosely any_place) list text out n = JudgesLoosely A any_place text out n
 DoesWork A parts CanFold Folds (For.ByKernel any_place moving) list text out n = JudgesByKernel A any_place moving text out n
 DoesWork A parts CanFold Folds (For.Picture drawing) list text out n = PicturesTrace drawing text out n
 DoesWork A parts CanFold Folds (For.Litmus wanted limit) list text out n = TellsTest (record { wanted = wanted; limit = limit }) list text out n

@@ -1,30 +1,40 @@
 //! What is said about words that can't be acted on, and of files that can't be read.
-ghost use Rattle.std.specs.Prelude.{◌≡◌, ◌≤◌};
-ghost use Rattle.std.specs.Io.KnownBytes.{Appends};
-ghost use Rattle.word_help.specs.Help.{page_of};
+ghost use Rattle.std.specs.Prelude.{◌≡◌};
+ghost use Rattle.command_line.specs.Done.{Shows, TellsUsage, TellsWords};
 ghost use Rattle.command_line.specs.Status.{words_status};
-ghost use Rattle.word_help.specs.declared.Topic.{Topic};
+ghost use Rattle.trace_io.specs.Io.{written_to};
 
+use crate::output::{Output, status_seen};
 use clap::Error;
 use clap::error::ErrorKind;
 use std::alloc::Global;
 use std::io;
 use std::io::Write;
-use trace_io::sink::{Sink, write_all};
+use trace_io::IoFault;
+use trace_io::sink::write_out;
 use word_grammar::Usage;
-use word_help::page;
+use word_help::{brief, page};
 use word_parts::pointing::tell as tell_line;
 
 // Prints a text on standard output, and answers the status.
-fn show<W: Sink, E: Write>(text: &str, out: &mut W, errors: &mut E) -> u8
-    ensures shown { result ≡ 0 → Appends (W.contents out.old) (W.contents out.new) text.now }
-    ensures within { result ≤ 3 }
+fn show<W: Output, E: Write>(text: &str, out: &mut W, errors: &mut E) -> u8
+    ensures { Shows text.now (written_to W.Sink out.old out.new) result }
 {
-    if write_all(out, text.as_bytes()).is_ok() && out.flush().is_ok() {
-        return 0;
+    match write_out(out, text.as_bytes()) {
+        Ok(()) => 0,
+        Err(_) => {
+            tell_unwritten(out, errors);
+            status_seen(3, out)
+        }
     }
-    let _ = errors.write_all(b"radixvm: write failed\n");
-    3
+}
+
+/// Tells that standard output couldn't be written, and why, where that is known. Nothing is said where its reader has gone.
+pub(crate) fn tell_unwritten<W: Output, E: Write>(out: &W, errors: &mut E) {
+    match out.cause() {
+        Some(io::ErrorKind::BrokenPipe) => {}
+        cause => tell_cause("standard output", IoFault::WriteFailed, cause, errors),
+    }
 }
 
 /// Why the program's words can't be acted on, except for what they say.
@@ -98,8 +108,8 @@ fn tell_mistake<E: Write>(text: &str, errors: &mut E) {
 }
 
 // Tells why the words can't be acted on, or what they ask the parser for, and answers the status.
-fn tell_words<W: Sink, E: Write>(alloc: Global, error: &Error, out: &mut W, errors: &mut E) -> u8
-    ensures { result ≤ 3 }
+fn tell_words<W: Output, E: Write>(alloc: Global, error: &Error, out: &mut W, errors: &mut E) -> u8
+    ensures { TellsWords error.now (written_to W.Sink out.old out.new) result }
 {
     let Ok(text) = format!(in alloc; "{error}") else {
         return refuse_words(WordsFault::NoMemory, errors);
@@ -117,27 +127,33 @@ fn tell_words<W: Sink, E: Write>(alloc: Global, error: &Error, out: &mut W, erro
 }
 
 /// Prints what is said in place of what is asked for, and answers the status.
-pub(crate) fn tell<W: Sink, E: Write>(
+pub(crate) fn tell<W: Output, E: Write>(
     alloc: Global,
     told: &Usage,
     out: &mut W,
     errors: &mut E,
 ) -> u8
-    ensures page { (topic : Topic) → told.now ≡ Usage.Page topic → result ≡ 0
-        → Appends (W.contents out.old) (W.contents out.new) (page_of topic) }
-    ensures within { result ≤ 3 }
+    ensures { TellsUsage told.now (written_to W.Sink out.old out.new) result }
 {
     match told {
         Usage::Words(error) => tell_words(alloc, error, out, errors),
         Usage::Page(topic) => show(page(*topic), out, errors),
+        Usage::Front(topic) => show(brief(*topic), out, errors),
         Usage::NoSteps(steps) => {
             let first = steps.first;
             let last = steps.last;
-            let _ = writeln!(errors, "radixvm: --from {first} is behind --to {last}");
+            let _ = writeln!(errors, "radixvm: --from {first} is after --to {last}");
             2
         }
         Usage::NoLine => {
-            let _ = writeln!(errors, "radixvm: --at 0: lines are counted from 1");
+            let _ = writeln!(errors, "radixvm: lines are counted from 1");
+            2
+        }
+        Usage::NoAddress => {
+            let _ = writeln!(
+                errors,
+                "radixvm: --who: an address is wanted, such as 0x10000"
+            );
             2
         }
         Usage::ManyFiles => {
@@ -147,18 +163,32 @@ pub(crate) fn tell<W: Sink, E: Write>(
     }
 }
 
-/// Tells which file it is that can't be read, and why.
-pub(crate) fn tell_cause<E: Write>(name: &str, cause: io::ErrorKind, errors: &mut E) {
+/// Tells that a stream or memory failed.
+pub(crate) fn tell_io<E: Write>(fault: IoFault, errors: &mut E) {
+    let _ = writeln!(errors, "radixvm: {fault}");
+}
+
+/// Tells which file it is that can't be read or written, and why, where that is known.
+pub(crate) fn tell_cause<E: Write>(
+    name: &str,
+    fault: IoFault,
+    cause: Option<io::ErrorKind>,
+    errors: &mut E,
+) {
+    let Some(cause) = cause else {
+        let _ = writeln!(errors, "radixvm: {name}: {fault}");
+        return;
+    };
     let why = match cause {
         io::ErrorKind::NotFound => "there is no such file",
-        io::ErrorKind::PermissionDenied => "it may not be read",
+        io::ErrorKind::PermissionDenied => "permission denied",
         io::ErrorKind::IsADirectory => "it is a directory",
         _ => "",
     };
     if why.is_empty() {
-        let _ = writeln!(errors, "  {name}: {cause}");
+        let _ = writeln!(errors, "radixvm: {name}: {fault}: {cause}");
     } else {
-        let _ = writeln!(errors, "  {name}: {why}");
+        let _ = writeln!(errors, "radixvm: {name}: {fault}: {why}");
     }
 }
 

@@ -1,5 +1,6 @@
 -- Lines behind one another
-use Rattle.std.proofs.Common.{◌≡◌, ◌≢◌, ◌∙◌, ℕ, zero, suc, ◌-◌, ◌<◌, List, [], ◌∷◌, ◌++◌, Bool, true, false, eqb, ap, append-nil, append_assoc, arith, get_or, length, refl, subst, sym}
+use Rattle.std.proofs.Common.{◌≡◌, ◌≢◌, ◌∙◌, ℕ, zero, suc, ◌-◌, ◌<◌, List, [], ◌∷◌, ◌++◌, Bool, true, false, eqb, ap, append-nil, append_assoc, arith}
+use Rattle.std.proofs.Common.{get_or, length, refl, subst, sym}
 use Rattle.std.proofs.lemmas.Bool.Decides.{nat_tests}
 use Rattle.trace_io.specs.Lines.{lines_of}
 use Rattle.std.specs.Prelude.{codes, decimal}

@@ -499,7 +499,7 @@ stored_other t page i byte x (Some e) ne = go e.own
     go None = back e.back
     go (Some own) = put_other t.entry page (Some (record e { own = Some (put own i byte) })) x ne
 
-accessed_other : (t : Plain) (addr byte x : ℕ) (y : Reply) → x ≢ page_of addr → (accessed t addr byte y).entry x ≡ t.entry x
+pub accessed_other : (t : Plain) (addr byte x : ℕ) (y : Reply) → x ≢ page_of addr → (accessed t addr byte y).entry x ≡ t.entry x
 accessed_other t addr byte x Done ne = stored_other t (page_of addr) (offset_of addr) byte x (t.entry (page_of addr)) ne
 accessed_other t addr byte x (Mapped at) ne = refl
 accessed_other t addr byte x (Byte b) ne = refl

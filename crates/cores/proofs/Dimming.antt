@@ -143,7 +143,7 @@ due_dims t s page same = go (detached t page) refl
     go None e = same
     go (Some u) e = subst (λ (p : Option Plain). Dimmed (or_else t p) s) (sym e) (detached_dims t u s page e same)
 
-copy_dims : (t s : Plain) (r : Request) (y : Reply) → Dimmed t s → Dimmed (with_copy t (page_copied t r y)) s
+pub copy_dims : (t s : Plain) (r : Request) (y : Reply) → Dimmed t s → Dimmed (with_copy t (page_copied t r y)) s
 copy_dims t s (Store addr byte) Done same = due_dims t s (page_of addr) same
 copy_dims t s (Load addr) Done same = same
 copy_dims t s (Fetch addr) Done same = same
@@ -257,6 +257,21 @@ stored_left t s page i byte e None at same = go e.back
     go (Shared file k) = same
     go (Private file k) = same
 
+-- an access leaves all pages their rights
+pub accessed_left : (t s : Plain) (addr byte : ℕ) (y : Reply) → Dimmed t s → Dimmed (accessed t addr byte y) s
+accessed_left t s addr byte Done same = go (t.entry (page_of addr)) refl
+  where
+    go : (o : Option PageEntry) → t.entry (page_of addr) ≡ o → Dimmed (stored_entry t (page_of addr) o (offset_of addr) byte) s
+    go None e = same
+    go (Some en) e = stored_left t s (page_of addr) (offset_of addr) byte en en.own e same
+accessed_left t s addr byte (Mapped at) same = same
+accessed_left t s addr byte (Byte b) same = same
+accessed_left t s addr byte (Refused e) same = same
+accessed_left t s addr byte (Segv code) same = same
+accessed_left t s addr byte Bus same = same
+accessed_left t s addr byte NoFrame same = same
+accessed_left t s addr byte NoMemory same = same
+
 stored_right : (t s : Plain) (page i : ℕ) (f : PageEntry) → s.entry page ≡ Some f → IsZero f → Dimmed t s → Dimmed t (stored_own s page f f.own i 0)
 stored_right t s page i f at zero same =
     subst (λ (own : Option Bytes). Dimmed t (stored_own s page f own i 0)) (sym zero.own)
@@ -351,7 +366,7 @@ accesses_left rule t s u core addr r q NoMemory a byte is same h = (s, refl, sub
 
 -- ---- ranges
 
-across_dims : (r : PageRange) (t s : Plain) (f g : ℕ → Option PageEntry) → ((x : ℕ) → Dims (f x) (g x)) → Dimmed t s → (x : ℕ)
+pub across_dims : (r : PageRange) (t s : Plain) (f g : ℕ → Option PageEntry) → ((x : ℕ) → Dims (f x) (g x)) → Dimmed t s → (x : ℕ)
     → Dims (across t.entry (has r) f x) (across s.entry (has r) g x)
 across_dims r t s f g new same x = go (has r x)
   where
@@ -373,7 +388,7 @@ munmap_change rule core addr len None t s u same h =
     let v : Plain = after_unmapping s r in
     (v, (refl, refl), subst (λ (n : Plain). Dimmed n v) (sym h.1) (across_dims r t s (λ x. None) (λ x. None) (λ x. refl) same))
 
-prot_dims : (prot : Prot) (o q : Option PageEntry) → Dims o q → Dims (with_prot prot o) (with_prot prot q)
+pub prot_dims : (prot : Prot) (o q : Option PageEntry) → Dims o q → Dims (with_prot prot o) (with_prot prot q)
 prot_dims prot None q d = subst (λ (p : Option PageEntry). Dims None (with_prot prot p)) (sym d) refl
 prot_dims prot (Some e) q d =
     subst (λ (p : Option PageEntry). Dims (Some (record e { prot = prot })) (with_prot prot p)) (sym d.1)

@@ -14,7 +14,7 @@ use Rattle.audit.specs.Placing.{rule_of}
 use Rattle.orders.specs.declared.history.Item.{Item}
 use Rattle.orders.specs.declared.history.Item.TheVariants.{Reply as ReplyOf, Copy}
 use Rattle.orders.specs.declared.history.Timed.{Timed}
-use Rattle.orders.specs.Orders.{HasOrder, IsOrder, LeadAll}
+use Rattle.orders.specs.Orders.{EachOnce, HasOrder, IsOrder, KeepsTime, LeadAll}
 use Rattle.orders.proofs.Lists.{below, get_here, get_within}
 use Rattle.cores.specs.declared.finding.Core.{Core}
 use Rattle.cores.specs.Byteless.{AreByteless, Fits, reply_left, timed_byteless}
@@ -29,7 +29,7 @@ use Rattle.cores.proofs.Picking.{Stay, add, pick, stay_once, stay_time}
 timed_same : (a b : Timed) → Some a ≡ Some b → a ≡ b
 timed_same a b e = cc
 
-got : (h : List Timed) (i : ℕ) (c : Timed) → slice_get h i ≡ Some c → slice_get (map timed_byteless h) i ≡ Some (timed_byteless c)
+pub got : (h : List Timed) (i : ℕ) (c : Timed) → slice_get h i ≡ Some c → slice_get (map timed_byteless h) i ≡ Some (timed_byteless c)
 got h i c e = slice_get-map timed_byteless h i ∙ ap (option_map timed_byteless) e
 
 was : (h : List Timed) (i : ℕ) (d : Timed) → slice_get (map timed_byteless h) i ≡ Some d → (c : Timed) × (slice_get h i ≡ Some c) × (d ≡ timed_byteless c)
@@ -45,10 +45,10 @@ has_one (x ∷ xs) zero l = (x, refl)
 has_one (x ∷ xs) (suc i) l = has_one xs i (omega (arith, l))
 
 -- each keeps its number
-abbrev own_number : List Timed → ℕ → Option ℕ
+abbrev pub own_number : List Timed → ℕ → Option ℕ
 own_number h i = option_map (λ (c : Timed). i) (slice_get h i)
 
-own_got : (h : List Timed) (i : ℕ) (c : Timed) → slice_get h i ≡ Some c → own_number h i ≡ Some i
+pub own_got : (h : List Timed) (i : ℕ) (c : Timed) → slice_get h i ≡ Some c → own_number h i ≡ Some i
 own_got h i c e = ap (option_map (λ (d : Timed). i)) e
 
 own_was : (h : List Timed) (i j : ℕ) → own_number h i ≡ Some j → (i ≡ j) × ((c : Timed) × (slice_get h i ≡ Some c))
@@ -75,17 +75,11 @@ lead_byteless rule h (ReplyOf i ∷ xs) t s u fit same a =
     (sym (own_got h i reply.0 reply.1))
     (rest.0, (next.0, (timed_byteless reply.0, got h i reply.0 reply.1, next.1), rest.1))
 
-pub order_byteless : (rule : PlaceRule) (t : Plain) (h : List Timed)
-    → ((i : ℕ) (c : Timed) → slice_get h i ≡ Some c → Fits c.call.request c.call.reply) → HasOrder rule t h
-    → HasOrder rule (dim t) (map timed_byteless h)
-order_byteless rule t h fit o = record { items = pick g items; is_order = order }
+-- items that have each call once and keep time are an order of the calls without their bytes, if those that stay lead on
+pub byteless_order : (rule : PlaceRule) (t : Plain) (h : List Timed) (items : List Item) → EachOnce (length h) items → KeepsTime h items
+    → (v : Plain) × LeadAll rule (map timed_byteless h) (dim t) (pick (own_number h) items) v → HasOrder rule (dim t) (map timed_byteless h)
+byteless_order rule t h items once keeps lead = record { items = pick g items; is_order = order }
   where
-    items : List Item
-    items = o.items
-
-    is : IsOrder rule t h items
-    is = o.is_order
-
     k : List Timed
     k = map timed_byteless h
 
@@ -117,19 +111,23 @@ order_byteless rule t h fit o = record { items = pick g items; is_order = order 
         all j l =
             let d = has_one k j l in
             let c = was h j d.0 d.1 in
-            let found = is.each_once.some j (get_within h j c.0 c.1) in
+            let found = once.some j (get_within h j c.0 c.1) in
             (j, found.0, own_got h j c.0 c.1, found.1)
-
-    lead : (v : Plain) × LeadAll rule k (dim t) (pick g items) v
-    lead = lead_byteless rule h items t (dim t) is.last fit (is_dim t) is.lead
 
     order : IsOrder rule (dim t) k (pick g items)
     order = record {
-      keeps_time = stay_time h k items items 0 g stay is.keeps_time;
-      each_once = stay_once h k items items 0 g stay is.each_once;
+      keeps_time = stay_time h k items items 0 g stay keeps;
+      each_once = stay_once h k items items 0 g stay once;
       last = lead.0;
       lead = lead.1;
     }
+
+pub order_byteless : (rule : PlaceRule) (t : Plain) (h : List Timed)
+    → ((i : ℕ) (c : Timed) → slice_get h i ≡ Some c → Fits c.call.request c.call.reply) → HasOrder rule t h
+    → HasOrder rule (dim t) (map timed_byteless h)
+order_byteless rule t h fit o =
+    byteless_order rule t h o.items o.is_order.each_once o.is_order.keeps_time
+    (lead_byteless rule h o.items t (dim t) o.is_order.last fit (is_dim t) o.is_order.lead)
 
 -- ---- where some calls did not take effect
 

@@ -101,7 +101,7 @@ fn timed_byteless(timed: Timed) -> Option<Timed>
 
 /// The calls without their bytes, if that can be told of each.
 #[tactic(auto, using(crate::proofs::Forgetting::none_so_far))]
-pub(crate) fn without_bytes<A: Allocator + Clone + Drop>(
+pub fn without_bytes<A: Allocator + Clone + Drop>(
     alloc: &A,
     history: &[Timed],
 ) -> Result<Option<Vec<Timed, A>>, NoMemory>

@@ -17,5 +17,6 @@ mod kept;
 mod parts;
 mod trying;
 
+pub use byteless::without_bytes;
 pub use finding::{Core, find_core, find_core_but};
 pub use kept::Kept;

@@ -70,10 +70,10 @@ mark_place sheet core number = record {
 abbrev pub edge : Sheet → ℕ → ℕ → ℕ → ℕ
 edge sheet core other by = if nat_lt core other then lane sheet core + pitch sheet - by else lane sheet core + by
 
--- straight in the column of the take, between two cores
-abbrev pub straight : Sheet → Arrow → ℕ → ℕ → Way
-straight sheet a leaves comes = record {
-  x1 = middle sheet a.came;
+-- from the column in which it goes out to that in which it comes, between two cores
+abbrev pub way_between : Sheet → Arrow → ℕ → ℕ → Way
+way_between sheet a leaves comes = record {
+  x1 = middle sheet a.sent;
   y1 = edge sheet a.from a.to leaves;
   x2 = middle sheet a.came;
   y2 = edge sheet a.to a.from comes;
@@ -81,8 +81,8 @@ straight sheet a leaves comes = record {
 
 -- from the bar of the call whose message it is to the mark of the take, or back
 abbrev pub way_of : Sheet → Arrow → Course → Way
-way_of sheet a Message = straight sheet a (inset sheet.form) (mark_inset sheet.form)
-way_of sheet a Acknowledgement = straight sheet a (mark_inset sheet.form) (inset sheet.form)
+way_of sheet a Message = way_between sheet a (inset sheet.form) (mark_inset sheet.form)
+way_of sheet a Acknowledgement = way_between sheet a (mark_inset sheet.form) (inset sheet.form)
 
 abbrev pub arrow_way : Sheet → Arrow → Way
 arrow_way sheet a = way_of sheet a a.course

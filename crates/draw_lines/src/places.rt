@@ -113,20 +113,19 @@ fn edge(sheet: &Sheet, core: CoreId, other: CoreId, by: u64) -> u64
     }
 }
 
-/// From where to where an arrow goes: straight in the column of the take, between the mark of the take and the bar of the call whose
-/// message it is.
+/// From where to where an arrow goes: from the bar of the call whose message it is, where it is sent, to the mark of the take; and back,
+/// straight in the column of the second take.
 pub fn arrow_way(sheet: &Sheet, arrow: &Arrow) -> Way
     ensures { result ≡ arrow_way sheet.now arrow.now }
 {
-    let x = middle(sheet, arrow.came);
     let (leaves, comes) = match arrow.course {
         Course::Message => (inset(sheet.form), mark_inset(sheet.form)),
         Course::Acknowledgement => (mark_inset(sheet.form), inset(sheet.form)),
     };
     Way {
-        x1: x,
+        x1: middle(sheet, arrow.sent),
         y1: edge(sheet, arrow.from, arrow.to, leaves),
-        x2: x,
+        x2: middle(sheet, arrow.came),
         y2: edge(sheet, arrow.to, arrow.from, comes),
     }
 }

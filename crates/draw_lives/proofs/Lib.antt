@@ -1,2 +1,3 @@
 mod JoinedRows
+mod Lanes
 mod Lived

@@ -1,2 +1,7 @@
 pub mod Tellings
 pub mod Drives
+pub mod Leading
+pub mod Owning
+pub mod Handled
+pub mod Returned
+pub mod Served

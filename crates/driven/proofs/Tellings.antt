@@ -121,7 +121,8 @@ not_second false b false d h = ((λ x y. cc), λ x y. cc)
 joins : (m : World) (core : ℕ) (before now : Told) (o : Outcome) (v : World) → is_second before (m.calls.phase core) ≡ false
     → StepTells m core now o v → (is_some now.fill ≡ true → is_some (due_in (m.calls.phase core)) ≡ true) → Joins before now (joined before now)
 joins m core before now o v apart s due =
-    let parts = not_second (is_some before.own) (is_some (own_range (m.calls.phase core))) (is_some before.fill) (is_some (due_in (m.calls.phase core))) apart in
+    let parts = not_second (is_some before.own) (is_some (own_range (m.calls.phase core))) (is_some before.fill) (is_some (due_in
+    (m.calls.phase core))) apart in
     record {
       own = told_once before.own now.own (λ x y. parts.0 x (subst (λ q. is_some q ≡ true) s.own y));
       fill = told_once before.fill now.fill (λ x y. parts.1 x (due y));

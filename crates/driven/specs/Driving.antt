@@ -64,7 +64,7 @@ with_origin r (From.File n k) = record r { fill = 3; from = k; file = n }
 
 abbrev pub with_fill : RawFilled → Option FrameFill → RawFilled
 with_fill r None = r
-with_fill r (Some x) = with_origin r x.from
+with_fill r (Some x) = with_origin (record r { frame = x.frame }) x.from
 
 -- the page that got a frame, or else the page of the access
 abbrev pub page_told : Option ℕ → Option FrameFill → Option ℕ

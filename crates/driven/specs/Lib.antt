@@ -1,2 +1,5 @@
 pub mod Telling
 pub mod Driving
+pub mod Reclaiming
+pub mod Duties
+pub mod Served

@@ -9,12 +9,13 @@ ghost use Rattle.driven.specs.Driving.{drop_code, drive_code, page_touched, both
 ghost use Rattle.driven.specs.Driving.{TouchesOn, ChangesOn, ResumesOn, TakesDrop};
 
 use crate::telling::{FrameFill, NOTHING, Origin, call_telling, go_telling};
+use crate::touching::touch_telling;
 use coded::asked::asked_of;
 use coded::codes::{RawEvent, RawOutcome, core_of, outcome_code};
 use coded::held::AnyMachine;
 use core_steps::Machine;
 use machine_log::Ledger;
-use machine_model::{Event, Phase};
+use machine_model::Phase;
 use mmu::Took;
 use slot_lock::{Goal, SlotMap};
 use std::alloc::Allocator;
@@ -119,25 +120,27 @@ fn change_request(raw: &RawEvent) -> Option<Request>
     asked_of(raw)
 }
 
-// What a touch comes to, with where its frame's bytes come from, if it is new.
+// What a touch comes to, with the frame that the page got, if it got one, and where its bytes come from.
 fn with_fill(shown: RawFilled, fill: &Option<FrameFill>) -> RawFilled
     ensures { result ≡ with_fill shown fill.now }
 {
-    match fill {
-        None => shown,
-        Some(fill) => match fill.from {
-            Origin::Zero => RawFilled { fill: 1, ..shown },
-            Origin::Frame(frame) => RawFilled {
-                fill: 2,
-                from: u64::from(frame),
-                ..shown
-            },
-            Origin::File { file, page } => RawFilled {
-                fill: 3,
-                from: page,
-                file,
-                ..shown
-            },
+    let Some(fill) = fill else { return shown };
+    let filled = RawFilled {
+        frame: fill.frame,
+        ..shown
+    };
+    match fill.from {
+        Origin::Zero => RawFilled { fill: 1, ..filled },
+        Origin::Frame(frame) => RawFilled {
+            fill: 2,
+            from: u64::from(frame),
+            ..filled
+        },
+        Origin::File { file, page } => RawFilled {
+            fill: 3,
+            from: page,
+            file,
+            ..filled
         },
     }
 }
@@ -218,13 +221,9 @@ pub fn touch<M: SlotMap, A: Allocator + Clone, L: Ledger>(
     if !machine.phase(core).is_free() {
         return Err(DriveStop::InFlight);
     }
-    let page = page_of(at);
-    let Ok(_) = machine.step(Event::Evict(core, page)) else {
-        return Err(DriveStop::NoMemory);
-    };
     let mut dues = NOTHING;
-    let ended = call_telling(machine, core, request, &mut dues);
-    *filled = filled_of(machine, core, Some(page), &dues.fill);
+    let ended = touch_telling(machine, core, at, request, &mut dues);
+    *filled = filled_of(machine, core, Some(page_of(at)), &dues.fill);
     let Ok(outcome) = ended else {
         return Err(DriveStop::NoMemory);
     };

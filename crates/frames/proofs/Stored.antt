@@ -77,6 +77,20 @@ stored-zero s f none = fun_ext (put_all (λ g v. stored_bytes s g ≡ v) (stored
 pub stored-still : {s v : Stored} (f : ℕ) → s ≡ v → get_or s.places f None ≡ None → stored_bytes s ≡ put (stored_bytes v) f zeros
 stored-still {s} f view none = stored-zero s f none ∙ ap (λ v. put (stored_bytes v) f zeros) view
 
+zero-put : (k : ℕ) → zeros ≡ put zeros k 0
+zero-put k = fun_ext (put_all (λ i b. zeros i ≡ b) zeros k 0 refl (λ i ne. refl))
+
+-- and one of them that is set to 0 changes nothing
+pub stored-zero-byte : {s v : Stored} (f k b : ℕ) → s ≡ v → get_or s.places f None ≡ None → b ≡ 0
+    → stored_bytes v ≡ put (stored_bytes v) f (put (stored_bytes v f) k b)
+stored-zero-byte {s} {v} f k b view none is = stored-zero v f here ∙ ap (put (stored_bytes v) f) bytes
+  where
+    here : get_or v.places f None ≡ None
+    here = ap (λ (x : Stored). get_or x.places f None) (sym view) ∙ none
+
+    bytes : zeros ≡ put (stored_bytes v f) k b
+    bytes = zero-put k ∙ (ap (λ x. put x k 0) (sym (stored-none v f here)) ∙ ap (put (stored_bytes v f) k) (sym is))
+
 -- the same frames have pages
 pub stored-kept : (s t : Stored) → IsStored s → t.places ≡ s.places → length t.pages ≡ length s.pages → t.capacity ≡ s.capacity → IsStored t
 stored-kept s t ok places len capacity = record {

@@ -1,4 +1,5 @@
-//! The bytes of all frames. A frame gets a page of memory when it is first written to.
+//! The bytes of all frames. A frame gets a page of memory when it is first filled, or when a byte that
+//! isn't 0 is first stored in it.
 ghost use Rattle.std.specs.Prelude.{◌≡◌, ◌<◌, IfOk, None, get_or, length, replicate};
 
 use crate::page_bytes::{self, FRAME_SIZE, Page};
@@ -121,7 +122,12 @@ impl<A: Allocator> ByteStore<A> {
         let place = place_of(&self.places, frame);
         match place {
             Some(at) => page_bytes::set_byte(&mut self.pages, at as usize, offset, byte),
-            None => self.set_first_byte(frame, offset, byte),
+            None => {
+                // its bytes are 0
+                if byte != 0 {
+                    self.set_first_byte(frame, offset, byte);
+                }
+            }
         }
     }
 

@@ -4,3 +4,4 @@ pub mod Stamps
 pub mod Speech
 pub mod Looks
 pub mod Said
+pub mod Replies

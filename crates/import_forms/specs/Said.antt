@@ -323,7 +323,7 @@ is_known text = known_by (known_said text)
 
 -- a thread's last line, `+++ exited with STATUS +++` or the like
 abbrev pub said_else : List ℕ → Said
-said_else text = if begins_by (codes "+++ ") text then Says.Ends else Says.Other
+said_else text = if begins_by (codes "+++ ") (from_token text) then Says.Ends else Says.Other
 
 -- what the text of a call says
 abbrev pub said_of : List ℕ → Said

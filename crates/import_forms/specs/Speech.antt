@@ -1,10 +1,10 @@
 -- Which thread a line of strace is about, and what it says of it.
-use Rattle.std.specs.Prelude.{ℕ, ◌-◌, Bool, ◌&&◌, ◌||◌, List, Option, None, Some, if◌then◌else◌, codes, length, take, drop, unwrap_or}
+use Rattle.std.specs.Prelude.{ℕ, ◌-◌, Bool, ◌||◌, List, Option, None, Some, if◌then◌else◌, codes, length, take, drop, unwrap_or}
 use Rattle.std.specs.Str.{bytes_eq}
 use Rattle.trace_text.specs.Request.{◌>>=◌}
 use Rattle.import_forms.specs.Said.{behind}
 use Rattle.import_forms.specs.Stamps.{call_text, front_thread}
-use Rattle.import_forms.specs.Tokens.{Token, begins_by, front_count, front_token}
+use Rattle.import_forms.specs.Tokens.{Token, begins_by, from_token, front_count, front_token, stripped}
 use Rattle.import_forms.specs.declared.speech.Speech.{Speech}
 
 -- a thread's number, and what is said of it
@@ -50,10 +50,10 @@ abbrev pub begun_of : List ℕ → Option (List ℕ)
 begun_of text = if bytes_eq (drop (length text - 16) text) (codes "<unfinished ...>")
     then Some (take (length text - 16) text) else None
 
--- `<... NAME resumed> REST`: the call's name, and the rest
+-- `<... NAME resumed>REST`: the call's name, and the rest
 unfoldable pub returned_of : List ℕ → Option (Token × List ℕ)
 returned_of text = do
   first ← front_token text
   name ← front_token first.1
-  mark ← front_token name.1
-  if bytes_eq first.0 (codes "<...") && bytes_eq mark.0 (codes "resumed>") then Some (name.0, mark.1) else None
+  rest ← stripped (codes "resumed>") (from_token name.1)
+  if bytes_eq first.0 (codes "<...") then Some (name.0, rest) else None

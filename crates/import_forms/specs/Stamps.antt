@@ -1,5 +1,6 @@
 -- What strace writes before a call and behind it: a thread, times, the call's number, an address, and how long it took.
-use Rattle.std.specs.Prelude.{ℕ, zero, suc, ◌^◌, Bool, true, false, ◌||◌, ◌&&◌, List, [], ◌∷◌, Option, None, Some, if◌then◌else◌, ◌==◌, codes, nat_le, nat_lt, option_map, unwrap_or}
+use Rattle.std.specs.Prelude.{ℕ, zero, suc, ◌^◌, Bool, true, false, ◌||◌, ◌&&◌, List, [], ◌∷◌, Option, None, Some, if◌then◌else◌, ◌==◌, codes, nat_le}
+use Rattle.std.specs.Prelude.{nat_lt, option_map, unwrap_or}
 use Rattle.std.specs.Str.{bytes_eq}
 use Rattle.trace_text.specs.Number.{number_of}
 use Rattle.trace_text.specs.Request.{◌>>=◌}

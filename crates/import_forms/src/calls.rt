@@ -1,4 +1,5 @@
-//! What logs of strace and of lackey have in common: the calls by their names, how one ended, and bits as Linux numbers them.
+//! What logs of strace and of lackey have in common: the calls by their names, how one ended, and bits as Linux
+//! numbers them.
 ghost use Rattle.std.specs.Prelude.{◌≡◌, ◌<◌};
 ghost use Rattle.import_forms.specs.Calls.{asked, call_named, clears, drops, flags_of, has_bit, has_kind, is_plain, keyed, lost_named, lost_of, lost_or_unread, rights_of};
 
@@ -121,7 +122,8 @@ pub fn flags_of(bits: u64) -> Flags
     }
 }
 
-/// What a mapping with the flags of these bits is that no trace has: of pages of another size, or one that grows by itself.
+/// What a mapping with the flags of these bits is that no trace has: of pages of another size, or one that grows by
+/// itself.
 pub fn lost_of(bits: u64) -> Option<Lost>
     ensures { result ≡ lost_of bits }
 {

@@ -70,7 +70,8 @@ pub enum Said {
         thread: u64,
         /// Whether it is of the same process (`CLONE_THREAD`).
         shares: bool,
-        /// Whether it is of another one that has its maker's address space until it begins a program (`CLONE_VM`, `vfork`).
+        /// Whether it is of another one that has its maker's address space until it begins a program (`CLONE_VM`,
+        /// `vfork`).
         joins: bool,
     },
     /// `execve`: a program begins, with a new address space.
@@ -145,8 +146,8 @@ fn memory_named(name: &[u8]) -> Option<Call>
     }
 }
 
-// The call of this name.
-fn said_named(name: &[u8]) -> Option<Call>
+/// The call of this name.
+pub(crate) fn said_named(name: &[u8]) -> Option<Call>
     ensures { result ≡ said_named name.now }
 {
     match call_named(name) {
@@ -194,8 +195,8 @@ fn read_outcome(after: &[u8]) -> Outcome
     }
 }
 
-// Tells whether a token has this flag: its bit, where the token is a number, and else its name.
-fn has_flag(token: &[u8], name: &[u8], bit: u64) -> bool
+/// Tells whether a token has this flag: its bit, where the token is a number, and else its name.
+pub(crate) fn has_flag(token: &[u8], name: &[u8], bit: u64) -> bool
     requires { 0 < bit }
     ensures { result ≡ has_flag name.now bit token.now }
 {
@@ -205,8 +206,8 @@ fn has_flag(token: &[u8], name: &[u8], bit: u64) -> bool
     }
 }
 
-// The rights that a token names.
-fn prot_named(token: &[u8]) -> Prot
+/// The rights that a token names.
+pub(crate) fn prot_named(token: &[u8]) -> Prot
     ensures { result ≡ prot_named token.now }
 {
     match read_number(token) {
@@ -219,8 +220,8 @@ fn prot_named(token: &[u8]) -> Prot
     }
 }
 
-// The flags that a token names. The kernel has placed the mapping, so it is fixed.
-fn flags_named(token: &[u8]) -> Flags
+/// The flags that a token names. The kernel has placed the mapping, so it is fixed.
+pub(crate) fn flags_named(token: &[u8]) -> Flags
     ensures { result ≡ flags_named token.now }
 {
     match read_number(token) {
@@ -247,8 +248,8 @@ fn names_lost(token: &[u8]) -> Option<Lost>
     }
 }
 
-// What a mapping with the flags that a token names is that no trace has.
-fn lost_by(token: &[u8]) -> Option<Lost>
+/// What a mapping with the flags that a token names is that no trace has.
+pub(crate) fn lost_by(token: &[u8]) -> Option<Lost>
     ensures { result ≡ lost_by token.now }
 {
     match read_number(token) {
@@ -272,8 +273,8 @@ fn comment_end(bytes: &[u8]) -> Option<&[u8]>
     }
 }
 
-// The bytes without the comment that stands first, if one does.
-fn past_comment(bytes: &[u8]) -> &[u8]
+/// The bytes without the comment that stands first, if one does.
+pub(crate) fn past_comment(bytes: &[u8]) -> &[u8]
     ensures { result.now ≡ past_comment bytes.now }
 {
     match comment_end(bytes) {
@@ -282,8 +283,8 @@ fn past_comment(bytes: &[u8]) -> &[u8]
     }
 }
 
-// Tells whether rights are also for what grows by itself.
-fn is_for_growing(token: &[u8]) -> bool
+/// Tells whether rights are also for what grows by itself.
+pub(crate) fn is_for_growing(token: &[u8]) -> bool
     ensures { result ≡ is_for_growing token.now }
 {
     match read_number(token) {
@@ -292,9 +293,9 @@ fn is_for_growing(token: &[u8]) -> bool
     }
 }
 
-// What `HINT, LEN, PROT, FLAGS, ..` has: length, rights, flags, and what stands after them.
+/// What `HINT, LEN, PROT, FLAGS, ..` has: length, rights, flags, and what stands after them.
 #[tactic(auto, unfolding(crate::specs::Said::mmap_words))]
-fn mmap_words(args: &[u8]) -> Option<(&[u8], &[u8], &[u8], &[u8])>
+pub(crate) fn mmap_words(args: &[u8]) -> Option<(&[u8], &[u8], &[u8], &[u8])>
     ensures { option_map (λ f. (f.0.now, f.1.now, f.2.now, f.3.now)) result ≡ mmap_words args.now }
 {
     let (_, rest) = next_token(args)?;
@@ -445,9 +446,9 @@ fn read_detach(before: &[u8]) -> Option<Said>
     Some(Said::Detaches(addr))
 }
 
-// `ADDR, LEN`, which gave 0.
+/// `ADDR, LEN`, which gave 0.
 #[tactic(auto, unfolding(crate::specs::Said::munmap_said))]
-fn read_munmap(before: &[u8], gave: u64) -> Option<Request>
+pub(crate) fn read_munmap(before: &[u8], gave: u64) -> Option<Request>
     ensures { result ≡ munmap_said before.now gave }
 {
     let (addr, rest) = next_count(before)?;
@@ -458,9 +459,9 @@ fn read_munmap(before: &[u8], gave: u64) -> Option<Request>
     Some(Request::Munmap { addr, len })
 }
 
-// `ADDR, LEN, PROT`, which gave 0.
+/// `ADDR, LEN, PROT`, which gave 0.
 #[tactic(auto, unfolding(crate::specs::Said::mprotect_said))]
-fn read_mprotect(before: &[u8], gave: u64) -> Option<Request>
+pub(crate) fn read_mprotect(before: &[u8], gave: u64) -> Option<Request>
     ensures { result ≡ mprotect_said before.now gave }
 {
     let (addr, rest) = next_count(before)?;
@@ -586,7 +587,7 @@ pub fn is_known(text: &[u8]) -> bool
 fn said_else(text: &[u8]) -> Said
     ensures { result ≡ said_else text.now }
 {
-    if begins(text, b"+++ ".as_slice()) {
+    if begins(without_gaps(text), b"+++ ".as_slice()) {
         Said::Ends
     } else {
         Said::Other

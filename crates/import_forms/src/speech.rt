@@ -2,11 +2,12 @@
 ghost use Rattle.std.specs.Prelude.{◌≡◌, ◌<◌, IfOk, codes, map, option_map};
 ghost use Rattle.trace_io.specs.Lines.{lines_of};
 ghost use Rattle.import_forms.specs.Said.{behind};
+ghost use Rattle.import_forms.specs.Tokens.{from_token, stripped};
 ghost use Rattle.import_forms.specs.Speech.{begun_of, broken_of, ends_message, message_of, numbered, returned_of, spoken, speech_of};
 
 use crate::making::behind;
 use crate::stamps::{call_text, front_thread};
-use crate::tokens::{begins, next_count, next_token};
+use crate::tokens::{begins, next_count, next_token, strip, without_gaps};
 use std::alloc::{AllocError, Global};
 use trace_io::lines::front_line;
 
@@ -19,7 +20,8 @@ pub struct Speech<'a> {
     pub text: &'a [u8],
 }
 
-// The thread that the line names, `PID` or `[pid PID]`, and what stands after it. Another number in brackets is a call's, or an address.
+// The thread that the line names, `PID` or `[pid PID]`, and what stands after it. Another number in brackets is a
+// call's, or an address.
 #[tactic(auto, unfolding(crate::specs::Speech::numbered))]
 fn numbered(line: &[u8]) -> Option<(u64, &[u8])>
     ensures { option_map (λ f. (f.0, f.1.now)) result ≡ numbered line.now }
@@ -91,8 +93,8 @@ fn message_of(line: &[u8]) -> Option<(&[u8], u64)>
     Some((front, number))
 }
 
-/// What stands before strace's own message about a thread, `strace: Process PID attached`, where a line ends with it, and the thread.
-/// The line goes on after it.
+/// What stands before strace's own message about a thread, `strace: Process PID attached`, where a line ends with it,
+/// and the thread. The line goes on after it.
 pub fn broken(line: &[u8]) -> Option<(&[u8], u64)>
     ensures { option_map (λ f. (f.0.now, f.1)) result ≡ broken_of line.now }
 {
@@ -115,15 +117,22 @@ pub fn begun(text: &[u8]) -> Option<&[u8]>
     }
 }
 
-/// The name of a call that returns, `<... NAME resumed>`, and what stands after that.
+// What stands after the word that says that a call goes on.
+fn past_resumed(bytes: &[u8]) -> Option<&[u8]>
+    ensures { option_map (λ f. f.now) result ≡ stripped (codes "resumed>") (from_token bytes.now) }
+{
+    strip(without_gaps(bytes), b"resumed>".as_slice())
+}
+
+/// The name of a call that returns, `<... NAME resumed>`, and what stands right after that.
 #[tactic(auto, unfolding(crate::specs::Speech::returned_of))]
 pub fn returned(text: &[u8]) -> Option<(&[u8], &[u8])>
     ensures { option_map (λ f. (f.0.now, f.1.now)) result ≡ returned_of text.now }
 {
     let (first, rest) = next_token(text)?;
     let (name, rest) = next_token(rest)?;
-    let (mark, rest) = next_token(rest)?;
-    if first == b"<...".as_slice() && mark == b"resumed>".as_slice() {
+    let rest = past_resumed(rest)?;
+    if first == b"<...".as_slice() {
         Some((name, rest))
     } else {
         None

@@ -96,7 +96,8 @@ fn are_marks(bytes: &[u8]) -> bool
     true
 }
 
-// Tells whether the token stands before a call: a time, a number, an address, or the sign before a time since the last line.
+// Tells whether the token stands before a call: a time, a number, an address, or the sign before a time since the last
+// line.
 fn is_stamp(token: &[u8]) -> bool
     ensures { result ≡ is_stamp token.now }
 {
@@ -128,8 +129,8 @@ fn past_stamps(bytes: &[u8]) -> &[u8]
     rest
 }
 
-// Tells whether the word says how long a call took, `<SECONDS>`.
-fn is_time(word: &[u8]) -> bool
+/// Tells whether the word says how long a call took, `<SECONDS>`.
+pub fn is_time(word: &[u8]) -> bool
     ensures { result ≡ is_time word.now }
 {
     let Some((first, rest)) = word.split_first() else {

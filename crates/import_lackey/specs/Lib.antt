@@ -1,3 +1,4 @@
 pub mod Heard
+pub mod Replies
 pub mod Tracing
 pub mod Traced

@@ -74,8 +74,8 @@ fn write_trace<W: Sink>(alloc: Global, log: &[u8], writer: &mut W) -> Result<Lac
     }
 }
 
-/// Reads a log of lackey to its end, and writes its trace. Answers what is said about that. Nothing is written before all is read
-/// and found its memory; and nothing at all where no request would be in the trace.
+/// Reads a log of lackey to its end, and writes its trace. Answers what is said about that. Nothing is written before
+/// all is read and found its memory; and nothing at all where no request would be in the trace.
 pub fn trace_log<S: Source, W: Sink>(
     alloc: Global,
     reader: &mut S,

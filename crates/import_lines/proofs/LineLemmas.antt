@@ -1,5 +1,6 @@
 -- What is kept of lines.
-use Rattle.std.proofs.Common.{◌≡◌, ℕ, zero, suc, ◌+◌, ◌-◌, ◌<◌, ◌≤◌, Bool, true, false, List, [], ◌∷◌, ◌++◌, All, length, take, drop, get_or, map, arith, refl, sym, ap, ◌∙◌, subst, length-append, append-nil}
+use Rattle.std.proofs.Common.{◌≡◌, ℕ, zero, suc, ◌+◌, ◌-◌, ◌<◌, ◌≤◌, Bool, true, false, List, [], ◌∷◌, ◌++◌, All, length, take, drop, get_or, map}
+use Rattle.std.proofs.Common.{arith, refl, sym, ap, ◌∙◌, subst, length-append, append-nil}
 use Rattle.std.specs.Prelude.{if◌then◌else◌}
 use Rattle.std.specs.Str.{bytes_eq}
 use Rattle.std.proofs.Math.ListN.{get_or-append}
@@ -12,7 +13,8 @@ use Rattle.vm_base.specs.declared.requests.Flags.{Flags}
 use Rattle.import_forms.specs.Speech.{Spoken}
 use Rattle.import_forms.specs.declared.said.Said.{Said}
 use Rattle.import_lines.specs.Joining.{speech_at}
-use Rattle.import_lines.specs.Lines.{AreKept, IsEntry, IsNamed, IsPlace, Kept, entry_kept, is_within, kept_at, kept_by, kept_text, line_kept, no_entry, seldom_of}
+use Rattle.import_lines.specs.Lines.{AreKept, IsEntry, IsNamed, IsPlace, Kept, entry_kept, is_within, kept_at, kept_by, kept_text, line_kept}
+use Rattle.import_lines.specs.Lines.{no_entry, seldom_of}
 use Rattle.import_steps.specs.Taking.{last_name, with_name}
 use Rattle.import_lines.specs.declared.lines.Entry.{Entry}
 use Rattle.import_lines.specs.declared.lines.Kind.{Kind}

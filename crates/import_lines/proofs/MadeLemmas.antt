@@ -1,5 +1,6 @@
 -- Who made which thread, and lists that grow behind.
-use Rattle.std.proofs.Common.{◌≡◌, ℕ, zero, suc, ◌+◌, ◌-◌, ◌<◌, Bool, true, false, List, [], ◌∷◌, ◌++◌, Option, None, Some, if◌then◌else◌, ◌&&◌, ◌||◌, nat_lt, length, take, drop, get_or, arith, refl, sym, ap, ◌∙◌, eqb}
+use Rattle.std.proofs.Common.{◌≡◌, ℕ, zero, suc, ◌+◌, ◌-◌, ◌<◌, Bool, true, false, List, [], ◌∷◌, ◌++◌, Option, None, Some, if◌then◌else◌, ◌&&◌, ◌||◌}
+use Rattle.std.proofs.Common.{nat_lt, length, take, drop, get_or, arith, refl, sym, ap, ◌∙◌, eqb}
 use Rattle.std.proofs.lemmas.Bool.Decides.{nat_tests}
 use Rattle.std.proofs.lemmas.List.{drop_more}
 use Rattle.import_forms.specs.Speech.{Spoken}

@@ -5,6 +5,7 @@ pub mod Lines
 pub mod LogLines
 pub mod Reading
 pub mod Made
+pub mod Returning
 pub mod Told
 pub mod Torn
 pub mod Listed

@@ -1,5 +1,6 @@
 -- What is kept of the lines of a log.
-use Rattle.std.specs.Prelude.{◌≡◌, ℕ, ◌+◌, ◌<◌, ◌≤◌, Bool, true, false, ◌||◌, List, [], Option, None, Some, All, if◌then◌else◌, drop, is_some, length, map, option_map, slice_index_or, take, ⊤}
+use Rattle.std.specs.Prelude.{◌≡◌, ℕ, ◌+◌, ◌<◌, ◌≤◌, Bool, true, false, ◌||◌, List, [], Option, None, Some, All, if◌then◌else◌, drop, is_some, length}
+use Rattle.std.specs.Prelude.{map, option_map, slice_index_or, take, ⊤}
 use Rattle.vm_base.specs.declared.rights.Prot.{Prot}
 use Rattle.vm_base.specs.declared.requests.Flags.{Flags}
 use Rattle.vm_base.specs.declared.requests.Request.{Request}

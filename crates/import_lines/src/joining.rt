@@ -33,8 +33,8 @@ pub fn half_text(lines: &ThreadLines, place: usize) -> &[u8]
     if line.half { line.name } else { b"".as_slice() }
 }
 
-// How the thread's last line before this place began a call, if it did.
-fn last_of(lines: &ThreadLines, place: usize, thread: u64) -> &[u8]
+/// How the thread's last line before this place began a call, if it did.
+pub(crate) fn last_of(lines: &ThreadLines, place: usize, thread: u64) -> &[u8]
     requires { place ≤ length lines.now }
     ensures { begun_of result.now ≡ begun_of (last_of thread lines.now place) }
 {
@@ -75,8 +75,8 @@ pub fn returns_by(front: &[u8], later: &[u8]) -> bool
     }
 }
 
-// Makes the text of these two parts.
-fn put_joined(text: &mut Vec<u8>, front: &[u8], rest: &[u8]) -> Result<(), AllocError>
+/// Makes the text of these two parts.
+pub(crate) fn put_joined(text: &mut Vec<u8>, front: &[u8], rest: &[u8]) -> Result<(), AllocError>
     ensures { OnOk result (text.new.items ≡ joined front.now rest.now) }
 {
     text.clear();
@@ -86,8 +86,8 @@ fn put_joined(text: &mut Vec<u8>, front: &[u8], rest: &[u8]) -> Result<(), Alloc
     Ok(())
 }
 
-// What a call of this name began with, if this is how it began; else its name.
-fn front_for<'a>(name: &'a [u8], earlier: &'a [u8]) -> &'a [u8]
+/// What a call of this name began with, if this is how it began; else its name.
+pub(crate) fn front_for<'a>(name: &'a [u8], earlier: &'a [u8]) -> &'a [u8]
     ensures { result.now ≡ front_for name.now (begun_of earlier.now) }
 {
     match begun(earlier) {
@@ -129,9 +129,9 @@ fn put_returned(
     Ok(true)
 }
 
-// Makes the whole text of the call that acts at this line, of half of a call, and tells whether one does. A call that stands in two
-// lines acts where it returns; `munmap` acts where it begins, since its pages are gone before it returns. What begins in a line
-// that isn't there is its name.
+// Makes the whole text of the call that acts at this line, of half of a call, and tells whether one does. A call that
+// stands in two lines acts where it returns; `munmap` acts where it begins, since its pages are gone before it
+// returns. What begins in a line that isn't there is its name.
 fn put_half(
     lines: &ThreadLines,
     place: usize,

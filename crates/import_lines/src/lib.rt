@@ -2,7 +2,8 @@
 //!
 //! - `reading` (`read_lines`), `log_lines`: lines as they are read; `lines`, `line`, `rares`, `quotes`: what is kept of
 //!   them.
-//! - `joining` (`told_at`): the text of a call that stands in two lines.
+//! - `joining` (`told_at`): the text of a call that stands in two lines, where it acts; `returning` (`put_returned`):
+//!   where it returns.
 //! - `threads`: whose lines they are that name no thread; `told`, `made`: which threads were made, and by whom.
 //! - `torn`: calls whose halves don't belong together.
 //! - `listed`: what a line of /proc/PID/maps says.
@@ -20,6 +21,7 @@ pub mod made;
 pub mod quotes;
 pub mod rares;
 pub mod reading;
+pub mod returning;
 pub mod threads;
 pub mod told;
 pub mod torn;

@@ -80,8 +80,8 @@ pub fn read_listed(line: &[u8]) -> Option<Listed<'_>>
     })
 }
 
-/// What a mapping of this name is of. A file's name is its path; the kernel gives names in brackets to mappings of no file,
-/// and `/dev/zero (deleted)` to shared ones.
+/// What a mapping of this name is of. A file's name is its path; the kernel gives names in brackets to mappings of no
+/// file, and `/dev/zero (deleted)` to shared ones.
 pub fn kind_of(name: &[u8]) -> MappingKind
     ensures { result ≡ kind_named name.now }
 {

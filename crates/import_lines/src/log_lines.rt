@@ -69,9 +69,9 @@ fn said_of<'a>(text: &[u8], line: Line<'a>) -> Said
     }
 }
 
-// What a text says, and of which thread; and what stands before a message about a thread, where the text ends with one: it goes on
-// after that.
-fn read_text(text: &[u8]) -> (Speech<'_>, &[u8])
+/// What a text says, and of which thread; and what stands before a message about a thread, where the text ends with
+/// one: it goes on after that.
+pub fn read_text(text: &[u8]) -> (Speech<'_>, &[u8])
     ensures speech { spoken result.0 ≡ spoken_whole text.now }
     ensures front { result.1.now ≡ front_left text.now }
 {

@@ -23,8 +23,9 @@ pub struct Making {
     pub shares: bool,
     /// Whether it is of another process, and has its maker's address space until it begins a program.
     pub joins: bool,
-    /// The line from which on it has an address space of its own, if it is of another process, counted from 0: that in which the call
-    /// began that made it, or where it has its maker's until it begins a program, that at which it does.
+    /// The line from which on it has an address space of its own, if it is of another process, counted from 0: that in
+    /// which the call began that made it, or where it has its maker's until it begins a program, that at which it
+    /// does.
     pub at: usize,
 }
 
@@ -136,7 +137,8 @@ fn add_making(made: &mut Made, making: Making) -> Result<(), AllocError>
     }
 }
 
-// The line from which on the child has an address space of its own, as it is known where each thread begins its first program.
+// The line from which on the child has an address space of its own, as it is known where each thread begins its first
+// program.
 fn own_from(starts: &HashMap<u64, usize>, lines: &ThreadLines, telling: CloneLine) -> usize
     requires { (t : ℕ) → get nat_eq starts.now t ≡ first_start lines.now (length lines.now) t }
     ensures { result ≡ own_from lines.now telling }
@@ -226,7 +228,8 @@ fn adopt(made: &mut Made, lines: &ThreadLines) -> Result<(), AllocError>
     Ok(())
 }
 
-/// Who made which thread, as the lines say. Where all threads of which none says so are of one process, that is process 0.
+/// Who made which thread, as the lines say. Where all threads of which none says so are of one process, that is
+/// process 0.
 pub fn all_makings<M: Meter>(
     alloc: Global,
     lines: &ThreadLines,
@@ -243,8 +246,8 @@ pub fn all_makings<M: Meter>(
     Ok(made)
 }
 
-/// The process of a thread: the number of its first thread, which is the first of whose maker no line tells, or which was made
-/// with an address space of its own.
+/// The process of a thread: the number of its first thread, which is the first of whose maker no line tells, or which
+/// was made with an address space of its own.
 pub fn process_of(made: &Made, thread: u64) -> u64
     ensures { result ≡ process_of made.now thread }
 {
@@ -273,8 +276,8 @@ pub fn fork_of(made: &Made, process: u64) -> Option<Making>
     }
 }
 
-// Tells whether a process that was made so has no address space of its own at this line. Whether a child that copies its maker's
-// counts, too, and not only one that shares that.
+// Tells whether a process that was made so has no address space of its own at this line. Whether a child that copies
+// its maker's counts, too, and not only one that shares that.
 fn is_lent(copies: bool, line: usize, making: Making) -> bool
     ensures { result ≡ (copies || making.joins) && nat_lt line making.at }
 {
@@ -305,7 +308,8 @@ fn space_within(copies: bool, made: &Made, line: usize, process: u64, own: Optio
     process
 }
 
-/// The process whose address space the calls of this one change at this line: its own, or its maker's while it shares that.
+/// The process whose address space the calls of this one change at this line: its own, or its maker's while it shares
+/// that.
 pub fn space_of(made: &Made, line: usize, process: u64, own: Option<Making>) -> u64
     requires { own ≡ fork_of (maker_of made.now process) }
     ensures { result ≡ space_of made.now line process }

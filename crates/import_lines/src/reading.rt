@@ -18,7 +18,8 @@ pub trait Listener {
 
     /// Hears one more line.
     fn hear(&mut self, line: &[u8]) -> Result<(), AllocError>
-        ensures { OnOk result ((lines : List (List ℕ)) → has_heard self.old lines → has_heard self.new (lines ++ line.now ∷ [])) };
+        ensures { OnOk result ((lines : List (List ℕ)) → has_heard self.old lines
+            → has_heard self.new (lines ++ line.now ∷ [])) };
 }
 
 // How many bytes there are up to the last newline, with it.
@@ -35,8 +36,8 @@ fn last_break(text: &[u8]) -> usize
     0
 }
 
-// Hears all lines of a text.
-fn hear_text<L: Listener>(listener: &mut L, text: &[u8]) -> Result<(), AllocError>
+/// Hears all lines of a text.
+pub fn hear_text<L: Listener>(listener: &mut L, text: &[u8]) -> Result<(), AllocError>
     ensures { OnOk result ((lines : List (List ℕ)) → L.has_heard listener.old lines
         → L.has_heard listener.new (lines ++ lines_of text.now)) }
 {
@@ -55,7 +56,8 @@ fn hear_more<L: Listener>(
     held: &mut Vec<u8>,
     bytes: &[u8],
 ) -> Result<(), AllocError>
-    ensures { OnOk result (HearsMore L.has_heard listener.old listener.new (held.old.items ++ bytes.now) held.new.items) }
+    ensures { OnOk result (HearsMore L.has_heard listener.old listener.new
+        (held.old.items ++ bytes.now) held.new.items) }
 {
     let end = last_break(bytes);
     if end == 0 {
@@ -70,14 +72,16 @@ fn hear_more<L: Listener>(
     Ok(())
 }
 
-/// Hears all lines of what is read until the input ends. Where a read fails, or there is no memory, some of it was read.
+/// Hears all lines of what is read until the input ends. Where a read fails, or there is no memory, some of it was
+/// read.
 pub fn read_lines<S: Source, L: Listener>(
     alloc: Global,
     reader: &mut S,
     listener: &mut L,
 ) -> Result<(), IoFault>
     ensures heard { OnOk result (Reads (S.stream reader.old) (S.stream reader.new) (λ input unread.
-        (lines : List (List ℕ)) → L.has_heard listener.old lines → L.has_heard listener.new (lines ++ lines_of input))) }
+        (lines : List (List ℕ)) → L.has_heard listener.old lines
+        → L.has_heard listener.new (lines ++ lines_of input))) }
     ensures kept { OnErr result
         (Reads (S.stream reader.old) (S.stream reader.new) (λ input unread. input ≡ input)) }
     ensures read { result ≡ Err IoFault.ReadFailed →

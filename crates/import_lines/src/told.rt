@@ -181,7 +181,8 @@ fn hear_start(
     place: usize,
     said: Option<Said>,
 ) -> Result<(), AllocError>
-    ensures { OnOk result ((t : ℕ) → get nat_eq noted.new t ≡ or_here (get nat_eq noted.old t) ((thread == t) && starts said) place) }
+    ensures { OnOk result ((t : ℕ) → get nat_eq noted.new t
+        ≡ or_here (get nat_eq noted.old t) ((thread == t) && starts said) place) }
 {
     let Some(said) = said else {
         return Ok(());
@@ -195,7 +196,8 @@ fn hear_start(
 
 // Notes that this line is the thread's last.
 fn note_last(last: &mut HashMap<u64, usize>, thread: u64, place: usize) -> Result<(), AllocError>
-    ensures { OnOk result ((t : ℕ) → get nat_eq last.new t ≡ (if thread == t then Some place else get nat_eq last.old t)) }
+    ensures { OnOk result ((t : ℕ) → get nat_eq last.new t
+        ≡ (if thread == t then Some place else get nat_eq last.old t)) }
 {
     last.insert(thread, place)?;
     Ok(())

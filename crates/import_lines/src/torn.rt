@@ -1,4 +1,5 @@
-//! Calls whose two lines don't belong together: `strace -z` and `-Z` write such ones, and in another order than they were made.
+//! Calls whose two lines don't belong together: `strace -z` and `-Z` write such ones, and in another order than they
+//! were made.
 ghost use Rattle.std.specs.Prelude.{◌≡◌, ◌+◌, ◌<◌, ◌≤◌, IfSome, drop, length};
 ghost use Rattle.import_lines.specs.Joining.{speech_at};
 ghost use Rattle.import_lines.specs.Lines.{kept_text};

@@ -1,10 +1,12 @@
 -- Lists that are made element by element, and the last line at which something holds.
-use Rattle.std.proofs.Common.{◌≡◌, ℕ, zero, suc, ◌+◌, ◌<◌, Bool, true, false, List, [], ◌∷◌, ◌++◌, Some, if◌then◌else◌, length, take, map, get_or, arith, refl, sym, ap, ◌∙◌}
+use Rattle.std.proofs.Common.{◌≡◌, ℕ, zero, suc, ◌+◌, ◌<◌, Bool, true, false, List, [], ◌∷◌, ◌++◌, Some, if◌then◌else◌, length, take, map, get_or}
+use Rattle.std.proofs.Common.{arith, refl, sym, ap, ◌∙◌}
 use Rattle.std.proofs.lemmas.List.{map_more}
 use Rattle.std.proofs.lemmas.List.Elements.{All-append}
 use Rattle.std.specs.Prelude.{All}
 use Rattle.import_forms.specs.Speech.{Spoken}
-use Rattle.import_log.specs.Imported.{asked_any, chosen_all, ending_all, ending_by, import_all, imported, is_known_start, is_unfollowed, processes_all, refusal_by, stray_of}
+use Rattle.import_log.specs.Imported.{asked_any, chosen_all, ending_all, ending_by, import_all, imported, is_known_start, is_unfollowed}
+use Rattle.import_log.specs.Imported.{processes_all, refusal_by, stray_of}
 use Rattle.import_lines.specs.Torn.{is_torn}
 use Rattle.import_lines.specs.Made.{all_makings}
 use Rattle.import_log.specs.Processes.{chosen, is_there, processes}

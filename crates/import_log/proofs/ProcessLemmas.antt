@@ -1,5 +1,6 @@
 -- The processes of a log.
-use Rattle.std.proofs.Common.{◌≡◌, ℕ, zero, suc, ◌+◌, ◌<◌, Bool, true, false, List, [], ◌∷◌, ◌++◌, Option, None, Some, if◌then◌else◌, length, drop, get_or, set, arith, refl, sym, ap, ◌∙◌, eqb}
+use Rattle.std.proofs.Common.{◌≡◌, ℕ, zero, suc, ◌+◌, ◌<◌, Bool, true, false, List, [], ◌∷◌, ◌++◌, Option, None, Some, if◌then◌else◌, length, drop}
+use Rattle.std.proofs.Common.{get_or, set, arith, refl, sym, ap, ◌∙◌, eqb}
 use Rattle.std.proofs.lemmas.List.{drop_more}
 use Rattle.import_forms.specs.Speech.{Spoken}
 use Rattle.import_lines.specs.Joining.{speech_at}

@@ -1,5 +1,6 @@
 -- A log, line by line, to what is taken of it.
-use Rattle.std.specs.Prelude.{ℕ, zero, suc, ◌+◌, Bool, true, false, not, ◌&&◌, ◌||◌, List, [], ◌∷◌, Option, None, Some, if◌then◌else◌, ◌==◌, drop, is_some, length, nat_lt, take}
+use Rattle.std.specs.Prelude.{ℕ, zero, suc, ◌+◌, Bool, true, false, not, ◌&&◌, ◌||◌, List, [], ◌∷◌, Option, None, Some, if◌then◌else◌, ◌==◌, drop}
+use Rattle.std.specs.Prelude.{is_some, length, nat_lt, take}
 use Rattle.trace_io.specs.Lines.{lines_of}
 use Rattle.import_steps.specs.Counts.{counted, no_counts}
 use Rattle.import_lines.specs.LogLines.{first_unread, spoken_from}

@@ -1,5 +1,6 @@
 -- Which programs the processes of a log ran.
-use Rattle.std.specs.Prelude.{ℕ, zero, suc, Bool, true, false, List, [], Option, None, Some, if◌then◌else◌, ◌==◌, ◌&&◌, is_some, length, map, nat_lt, slice_index_or, unwrap_or}
+use Rattle.std.specs.Prelude.{ℕ, zero, suc, Bool, true, false, List, [], Option, None, Some, if◌then◌else◌, ◌==◌, ◌&&◌, is_some, length, map, nat_lt}
+use Rattle.std.specs.Prelude.{slice_index_or, unwrap_or}
 use Rattle.import_forms.specs.Said.{said_of}
 use Rattle.import_forms.specs.Speech.{Spoken}
 use Rattle.import_forms.specs.declared.said.Said.{Said}

@@ -217,8 +217,8 @@ fn parts_in<M: Meter>(
     }
 }
 
-/// Reads a log of strace to its end: what comes of it for each of its processes, in the order of their first lines, beside nothing
-/// at the start.
+/// Reads a log of strace to its end: what comes of it for each of its processes, in the order of their first lines,
+/// beside nothing at the start.
 pub fn import_log_each<S: Source, M: Meter>(
     alloc: Global,
     reader: &mut S,

@@ -7,8 +7,8 @@ ghost use Rattle.import_log.specs.Entries.{counted, left_entries, no_entries, to
 pub enum Entered {
     /// It is a mapping, with its numbers.
     Kept,
-    /// A mapping of a file, as one of anonymous pages: the file is the 17th or a later one, or the mapping reaches past its
-    /// first 1,048,576 bytes.
+    /// A mapping of a file, as one of anonymous pages: the file is the 17th or a later one, or the mapping reaches
+    /// past its first 1,048,576 bytes.
     Changed,
     /// The kernel's own pages.
     Kernel,

@@ -29,12 +29,17 @@ pub enum Refusal {
     Unstarted,
     /// The log doesn't say it of this other process, which may be a thread of the one that is imported.
     Stray(u64),
-    /// A call began that never returned, or returned that never began: `strace -z` and `-Z` write such logs, out of order.
+    /// A call began that never returned, or returned that never began: `strace -z` and `-Z` write such logs, out of
+    /// order.
     Torn,
     /// Whose lines they are that name no thread can't be told.
     Unnumbered,
     /// No line names a thread, though one was made that has the same address space.
     Unfollowed,
+    /// A message of strace's stands within a line, which only replies can't be told of.
+    Broken,
+    /// Of several files of one log it isn't known when calls ended, which only replies can't be told of.
+    Untimed,
 }
 
 /// How an import of a log ended.
@@ -76,7 +81,8 @@ pub struct Imported {
     pub counts: LineCounts,
 }
 
-// Why a line is left out that a call began with, and at which it doesn't act: the call's other half does, if there is one.
+// Why a line is left out that a call began with, and at which it doesn't act: the call's other half does, if there is
+// one.
 fn half_begun(front: &[u8], later: &[u8]) -> Reason
     ensures { result ≡ half_begun front.now later.now }
 {
@@ -89,8 +95,8 @@ fn half_begun(front: &[u8], later: &[u8]) -> Reason
     }
 }
 
-// Why the line is left out, if no call acts at it.
-fn half_at(lines: &ThreadLines, place: usize) -> Reason
+/// Why the line is left out, if no call acts at it.
+pub fn half_at(lines: &ThreadLines, place: usize) -> Reason
     requires { place < length lines.now }
     ensures { result ≡ half_at lines.now place }
 {
@@ -100,8 +106,8 @@ fn half_at(lines: &ThreadLines, place: usize) -> Reason
     }
 }
 
-// Where the lines of the process end: behind the last that is of one of its threads.
-fn end_of(lines: &ThreadLines, made: &Made, process: u64) -> usize
+/// Where the lines of the process end: behind the last that is of one of its threads.
+pub fn end_of(lines: &ThreadLines, made: &Made, process: u64) -> usize
     ensures { result ≡ end_of made.now process lines.now (length lines.now) }
 {
     let mut end = lines.len();
@@ -114,8 +120,8 @@ fn end_of(lines: &ThreadLines, made: &Made, process: u64) -> usize
     0
 }
 
-// Tells whether this line is about the process, of which it is known how it was made and where it ends.
-fn is_ours(
+/// Tells whether this line is about the process, of which it is known how it was made and where it ends.
+pub fn is_ours(
     made: &Made,
     known: Known,
     line: usize,
@@ -244,8 +250,8 @@ fn ending_from(refusal: Option<Refusal>, steps: usize) -> Ending
     }
 }
 
-// How an import ended with so many requests, of a log that is refused or not, has lines of the thread or not, and asks for something
-// or not.
+// How an import ended with so many requests, of a log that is refused or not, has lines of the thread or not, and asks
+// for something or not.
 fn ending_by(refusal: Option<Refusal>, is_there: bool, is_asked: bool, steps: usize) -> Ending
     ensures { result ≡ ending_by refusal is_there is_asked steps }
 {
@@ -321,9 +327,9 @@ pub(crate) fn take_ended<M: Meter>(
     }
 }
 
-/// What is taken of a log of strace, beside what is there at the start: what the chosen process asked of its address space, and
-/// before it was made its parent of its own, since the last program began. Each line is counted once.
-pub(crate) fn import_lines<M: Meter>(
+/// What is taken of a log of strace, beside what is there at the start: what the chosen process asked of its address
+/// space, and before it was made its parent of its own, since the last program began. Each line is counted once.
+pub fn import_lines<M: Meter>(
     alloc: Global,
     start: &Taken,
     unread: &[u8],

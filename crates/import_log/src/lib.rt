@@ -15,7 +15,7 @@ pub mod entries;
 pub mod import;
 pub mod log;
 pub mod mapped;
-mod owned;
+pub mod owned;
 pub mod processes;
 pub mod programs;
 mod refusing;

@@ -90,9 +90,10 @@ fn write_import<W: Sink, M: Meter>(
     }
 }
 
-/// Reads a log of strace to its end, and writes its trace: what is there at the start, and what the chosen process asked of its
-/// address space. Answers what is said about that. Nothing is written before all is read and found its memory; and nothing at all
-/// where no request would be in the trace, no line is about the thread that was named, or the log is refused.
+/// Reads a log of strace to its end, and writes its trace: what is there at the start, and what the chosen process
+/// asked of its address space. Answers what is said about that. Nothing is written before all is read and found its
+/// memory; and nothing at all where no request would be in the trace, no line is about the thread that was named, or
+/// the log is refused.
 pub fn import_log<S: Source, W: Sink, M: Meter>(
     alloc: Global,
     start: &Taken,

@@ -75,9 +75,10 @@ fn import_behind<S: Source, W: Sink, M: Meter>(
     }
 }
 
-/// Reads a list of mappings and then a log of strace, both to their ends, and writes their trace: what the list says, and what
-/// the chosen process asked of its address space. Answers what is said about both. Nothing is written before all is read and found
-/// its memory; and nothing at all where no request would be in the trace, or no line is about the thread that was named.
+/// Reads a list of mappings and then a log of strace, both to their ends, and writes their trace: what the list says,
+/// and what the chosen process asked of its address space. Answers what is said about both. Nothing is written before
+/// all is read and found its memory; and nothing at all where no request would be in the trace, or no line is about
+/// the thread that was named.
 pub fn import_mapped<L: Source, S: Source, W: Sink, M: Meter>(
     alloc: Global,
     list: &mut L,

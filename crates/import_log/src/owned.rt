@@ -16,11 +16,11 @@ use std::alloc::{AllocError, Global};
 
 /// The lines of a log, each about its thread.
 #[derive(Drop)]
-pub(crate) struct OwnedLines {
+pub struct OwnedLines {
     /// The lines.
-    pub(crate) lines: ThreadLines,
+    pub lines: ThreadLines,
     /// Whether that can't be told of all of them.
-    pub(crate) unclear: bool,
+    pub unclear: bool,
 }
 
 // Tells whether this line names no thread, and speaks.
@@ -173,7 +173,7 @@ fn own_by(lines: ThreadLines, root: Option<u64>) -> ThreadLines
 }
 
 /// The lines, each about its thread.
-pub(crate) fn own_lines<M: Meter>(
+pub fn own_lines<M: Meter>(
     alloc: Global,
     lines: KeptLines,
     meter: &mut M,

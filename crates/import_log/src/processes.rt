@@ -36,15 +36,17 @@ pub struct Choice {
 
 /// A thread, and its process.
 #[derive(Clone, Copy)]
-pub(crate) struct Known {
-    pub(crate) thread: u64,
-    pub(crate) process: u64,
-    // How that was made, if it has an address space of its own.
-    pub(crate) own: Option<Making>,
+pub struct Known {
+    /// The thread.
+    pub thread: u64,
+    /// Its process.
+    pub process: u64,
+    /// How that was made, if it has an address space of its own.
+    pub own: Option<Making>,
 }
 
 /// Looks of which process the thread is.
-pub(crate) fn look(made: &Made, thread: u64) -> Known
+pub fn look(made: &Made, thread: u64) -> Known
     ensures thread { result.thread ≡ thread }
     ensures known { result.process ≡ process_of made.now thread }
     ensures own { result.own ≡ fork_of (maker_of made.now (process_of made.now thread)) }
@@ -58,7 +60,7 @@ pub(crate) fn look(made: &Made, thread: u64) -> Known
 }
 
 /// Of which process the thread is, as it is known of one thread: the next line is often of the same.
-pub(crate) fn recall(made: &Made, known: Known, thread: u64) -> Known
+pub fn recall(made: &Made, known: Known, thread: u64) -> Known
     requires known { known.process ≡ process_of made.now known.thread }
     requires own { known.own ≡ fork_of (maker_of made.now (process_of made.now known.thread)) }
     ensures thread { result.thread ≡ thread }

@@ -90,7 +90,8 @@ pub(crate) fn owners_of(
 
 // Notes that the process begins a program at this line.
 fn note_begun(begun: &mut HashMap<u64, usize>, number: u64, place: usize) -> Result<(), AllocError>
-    ensures { OnOk result ((q : ℕ) → get nat_eq begun.new q ≡ (if number == q then Some place else get nat_eq begun.old q)) }
+    ensures { OnOk result ((q : ℕ) → get nat_eq begun.new q
+        ≡ (if number == q then Some place else get nat_eq begun.old q)) }
 {
     begun.insert(number, place)?;
     Ok(())
@@ -193,7 +194,8 @@ fn programs_of(
     Ok(all)
 }
 
-/// The programs that the processes began last, in 80 bytes each, where there are several processes; none where there is one.
+/// The programs that the processes began last, in 80 bytes each, where there are several processes; none where there
+/// is one.
 pub(crate) fn read_programs(
     alloc: Global,
     lines: &ThreadLines,

@@ -25,7 +25,8 @@ fn begins_at(
     room: &mut Room,
 ) -> Result<bool, AllocError>
     requires { place < length lines.now }
-    ensures { IfOk result (λ b. b ≡ (process_of made.now (thread_at lines.now place) == process) && starts (said_at lines.now place)) }
+    ensures { IfOk result (λ b. b
+        ≡ (process_of made.now (thread_at lines.now place) == process) && starts (said_at lines.now place)) }
 {
     if process_of(made, lines.thread(place)) != process {
         return Ok(false);
@@ -55,7 +56,8 @@ fn begins_in(
     Ok(false)
 }
 
-// Tells whether another process than the chosen one asks for something, and no line says who made it or begins its program.
+// Tells whether another process than the chosen one asks for something, and no line says who made it or begins its
+// program.
 fn is_stray(
     lines: &ThreadLines,
     made: &Made,
@@ -75,8 +77,8 @@ fn is_stray(
     Ok(!begins)
 }
 
-/// The first of these processes that asks for something without being the chosen one, where no line says who made it or begins its
-/// program.
+/// The first of these processes that asks for something without being the chosen one, where no line says who made it
+/// or begins its program.
 pub(crate) fn stray_of(
     lines: &ThreadLines,
     made: &Made,
@@ -97,7 +99,8 @@ pub(crate) fn stray_of(
     Ok(None)
 }
 
-// Tells whether it is known with what a process began: from a list with so many mappings, or since so many programs begin.
+// Tells whether it is known with what a process began: from a list with so many mappings, or since so many programs
+// begin.
 fn is_known_start(before: usize, begins: u64) -> bool
     ensures { result ≡ is_known_start before begins }
 {
@@ -131,8 +134,8 @@ fn is_unfollowed(lines: &ThreadLines, made: &Made) -> bool
     }
 }
 
-/// Why the log is refused, if it is: of whose lines it is known whether they are unclear, of which other process it says too little,
-/// and how many programs the chosen one begins.
+/// Why the log is refused, if it is: of whose lines it is known whether they are unclear, of which other process it
+/// says too little, and how many programs the chosen one begins.
 pub(crate) fn refusal_for(
     lines: &ThreadLines,
     made: &Made,
@@ -143,7 +146,8 @@ pub(crate) fn refusal_for(
     begins: u64,
 ) -> Option<Refusal>
     ensures { result ≡ refusal_by (is_torn lines.now (length lines.now)) unclear
-        (is_unfollowed lines.now made.now) choice.from_empty stray (is_known_start (length (so_far start.now).steps) begins) }
+        (is_unfollowed lines.now made.now) choice.from_empty stray
+        (is_known_start (length (so_far start.now).steps) begins) }
 {
     if is_torn(lines) {
         Some(Refusal::Torn)

@@ -1,12 +1,14 @@
 -- Requests as they are kept: what one more adds, and the first of them.
-use Rattle.std.proofs.Common.{◌≡◌, ℕ, ◌+◌, ◌<◌, ◌≤◌, Bool, true, false, not, List, [], ◌∷◌, ◌++◌, length, take, drop, get_or, arith, refl, sym, ap, ◌∙◌, eqb, length-append}
+use Rattle.std.proofs.Common.{◌≡◌, ℕ, ◌+◌, ◌<◌, ◌≤◌, Bool, true, false, not, List, [], ◌∷◌, ◌++◌, length, take, drop, get_or, arith, refl, sym, ap}
+use Rattle.std.proofs.Common.{◌∙◌, eqb, length-append}
 use Rattle.std.specs.Prelude.{◌&&◌, if◌then◌else◌}
 use Rattle.std.proofs.Math.ListN.{get_or-append}
 use Rattle.std.proofs.lemmas.Bool.Decides.{nat_tests}
 use Rattle.std.proofs.lemmas.List.{drop-append-le, length-drop, length-take-le}
 use Rattle.vm_base.specs.declared.requests.Request.{Request}
 use Rattle.vm_base.specs.declared.requests.Request.TheVariants as Asks
-use Rattle.import_steps.specs.Steps.{flag_bits, flags_of, head_of, is_name, kind_width, name_kept, prot_bits, prot_of, request_kept, shape_of, shape_width, six_of, step_kept, steps_kept, widths}
+use Rattle.import_steps.specs.Steps.{flag_bits, flags_of, head_of, is_name, kind_width, name_kept, prot_bits, prot_of, request_kept, shape_of}
+use Rattle.import_steps.specs.Steps.{shape_width, six_of, step_kept, steps_kept, widths}
 use Rattle.import_steps.specs.declared.names.Name.{Name}
 use Rattle.import_steps.specs.declared.steps.Head.{Head}
 use Rattle.import_steps.specs.declared.steps.Kind.{Kind}

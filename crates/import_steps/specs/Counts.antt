@@ -21,6 +21,7 @@ no_counts = record {
   before = 0;
   unread = 0;
   still = 0;
+  unmapped = 0;
   lost = no_losses;
   begins = 0;
   other = 0;
@@ -32,7 +33,7 @@ changed_lines c = c.heap + c.moves + c.files + c.keyed + c.shared
 
 -- how many lines are left out, whatever the reason
 abbrev pub left_lines : LineCounts → ℕ
-left_lines c = c.half + c.failed + c.elsewhere + c.before + c.unread + c.still + lost_lines c.lost + c.begins + c.other
+left_lines c = c.half + c.failed + c.elsewhere + c.before + c.unread + c.still + c.unmapped + lost_lines c.lost + c.begins + c.other
 
 -- kept, changed and left out
 abbrev pub total : LineCounts → ℕ
@@ -53,6 +54,7 @@ begun_anew c = record {
   before = c.before + c.kept + changed_lines c + lost_lines c.lost;
   unread = c.unread;
   still = c.still;
+  unmapped = c.unmapped;
   lost = no_losses;
   begins = c.begins + 1;
   other = c.other;
@@ -71,6 +73,7 @@ counted c (Left For.Failed) = record c { failed = c.failed + 1 }
 counted c (Left For.Elsewhere) = record c { elsewhere = c.elsewhere + 1 }
 counted c (Left For.Unread) = record c { unread = c.unread + 1 }
 counted c (Left For.Still) = record c { still = c.still + 1 }
+counted c (Left For.Unmapped) = record c { unmapped = c.unmapped + 1 }
 counted c (Left For.Other) = record c { other = c.other + 1 }
 counted c (Left (For.Lost lost)) = record c { lost = with_lost c.lost lost }
 counted c (Left For.Begins) = begun_anew c

@@ -32,6 +32,8 @@ pub struct LineCounts {
     pub unread: u64,
     /// `brk` and `mremap` by which no page came or went.
     pub still: u64,
+    /// `mprotect` of pages that no call mapped before.
+    pub unmapped: u64,
     /// Calls that change the address space in a way that no trace has.
     pub lost: Losses,
     /// Programs that began.
@@ -58,6 +60,7 @@ impl LineCounts {
             before: 0,
             unread: 0,
             still: 0,
+            unmapped: 0,
             lost: Losses::new(),
             begins: 0,
             other: 0,
@@ -83,6 +86,7 @@ impl LineCounts {
             + self.before
             + self.unread
             + self.still
+            + self.unmapped
             + self.lost.total()
             + self.begins
             + self.other
@@ -102,6 +106,7 @@ impl LineCounts {
             elsewhere: self.elsewhere,
             unread: self.unread,
             still: self.still,
+            unmapped: self.unmapped,
             begins: self.begins + 1,
             other: self.other,
             ..LineCounts::new()
@@ -121,6 +126,7 @@ impl LineCounts {
             Reason::Elsewhere => counts.elsewhere += 1,
             Reason::Unread => counts.unread += 1,
             Reason::Still => counts.still += 1,
+            Reason::Unmapped => counts.unmapped += 1,
             Reason::Other => counts.other += 1,
             Reason::Lost(lost) => counts.lost = counts.lost.and(lost),
             Reason::Begins => return self.begin(),

@@ -32,8 +32,8 @@ fn ends(names: &[u8], name: &[u8]) -> bool
     last == name
 }
 
-/// Adds a name after the others, unless they end with it, and answers where it stands. Where there is no memory they stay as
-/// they are.
+/// Adds a name after the others, unless they end with it, and answers where it stands. Where there is no memory they
+/// stay as they are.
 pub fn note_name(names: &mut Vec<u8>, name: &[u8]) -> Result<Name, AllocError>
     ensures names { OnOk result (names.new.items ≡ with_name names.old.items name.now) }
     ensures name { IfOk result (λ n. n ≡ last_name names.new.items name.now) }

@@ -374,6 +374,21 @@ impl TraceRequests {
         (self.heads.as_slice(), self.numbers.as_slice())
     }
 
+    /// They, one by one.
+    pub fn list(&self, alloc: Global) -> Result<Vec<TraceRequest>, AllocError>
+        ensures { IfOk result (λ all. all.items ≡ self.now) }
+    {
+        let mut all: Vec<TraceRequest> = Vec::new(alloc);
+        let (mut heads, mut numbers) = self.parts();
+        'steps: while !heads.is_empty() {
+            let (step, later, behind) = front_step(heads, numbers);
+            all.push(step)?;
+            heads = later;
+            numbers = behind;
+        }
+        Ok(all)
+    }
+
     /// The same once more.
     pub fn copy(&self, alloc: Global) -> Result<TraceRequests, AllocError>
         ensures { IfOk result (λ copy. copy ≡ self.now) }

@@ -39,7 +39,8 @@ pub struct Taken {
     pub heap_end: Option<u64>,
     /// Shared memory by its numbers; of several that have one number the last counts.
     pub pieces: Vec<SharedSegment>,
-    /// Shared memory by the addresses at which it was attached, of no bytes where their number isn't known; the last counts.
+    /// Shared memory by the addresses at which it was attached, of no bytes where their number isn't known; the last
+    /// counts.
     pub attached: Vec<SharedSegment>,
     /// The names of files that became anonymous pages, one after another.
     pub names: Vec<u8>,
@@ -69,8 +70,8 @@ pub enum LineChange {
     Heap,
     /// `mremap`, as `munmap` and `mmap` of anonymous pages: their bytes are lost.
     Move,
-    /// A mapping of a file, as one of anonymous pages: the file is the 17th or a later one, or the mapping reaches past its
-    /// first 1,048,576 bytes.
+    /// A mapping of a file, as one of anonymous pages: the file is the 17th or a later one, or the mapping reaches
+    /// past its first 1,048,576 bytes.
     File,
     /// `pkey_mprotect`, as `mprotect`: the key is lost.
     Key,
@@ -91,6 +92,8 @@ pub enum Reason {
     Unread,
     /// `brk` or `mremap` by which no page comes or goes.
     Still,
+    /// `mprotect` of pages that no call mapped before.
+    Unmapped,
     /// A call that changes the address space in a way that no trace has.
     Lost(Lost),
     /// Any other call, an event, or nothing.
@@ -139,8 +142,8 @@ fn rounded(number: u64) -> u64
     (number + 4095) / 4096 * 4096
 }
 
-// Where the thread stands among these, or would stand after them.
-fn place_of(threads: &[u64], thread: u64) -> usize
+/// Where the thread stands among these, or would stand after them.
+pub fn place_of(threads: &[u64], thread: u64) -> usize
     ensures value { result ≡ place_of thread threads.now }
     ensures within { result ≤ length threads.now }
 {
@@ -244,8 +247,8 @@ fn widen(file: &mut FileUse, reach: u64)
     }
 }
 
-/// The number of the file of this name, of which a mapping reaches this many bytes; `None` where it would be the 17th. Where
-/// there is no memory the files stay as they are.
+/// The number of the file of this name, of which a mapping reaches this many bytes; `None` where it would be the 17th.
+/// Where there is no memory the files stay as they are.
 pub fn use_file(
     alloc: Global,
     files: &mut Vec<FileUse>,
@@ -485,7 +488,8 @@ fn take_move(
     new: u64,
     stays: bool,
 ) -> Result<Fate, AllocError>
-    ensures { IfOk result (λ fate. (so_far taken.new, fate) ≡ after_move (so_far taken.old) thread from old to new stays) }
+    ensures { IfOk result (λ fate. (so_far taken.new, fate)
+        ≡ after_move (so_far taken.old) thread from old to new stays) }
 {
     if from > ADDRESS_END || old > ADDRESS_END || to > ADDRESS_END || new > ADDRESS_END {
         return Ok(Fate::Left(Reason::Unread));
@@ -614,7 +618,8 @@ fn take_request(
     name: &[u8],
     request: Request,
 ) -> Result<Fate, AllocError>
-    ensures { IfOk result (λ fate. (so_far taken.new, fate) ≡ after_request (so_far taken.old) thread name.now request) }
+    ensures { IfOk result (λ fate. (so_far taken.new, fate)
+        ≡ after_request (so_far taken.old) thread name.now request) }
 {
     if let Request::Mmap {
         addr,
@@ -638,8 +643,9 @@ fn take_request(
     Ok(Fate::Kept)
 }
 
-/// Takes what the thread's call says, of the file of this name where it maps one, and answers what becomes of its line. A program
-/// that begins has a new address space, so what was taken before is forgotten, except for what is there at the start.
+/// Takes what the thread's call says, of the file of this name where it maps one, and answers what becomes of its
+/// line. A program that begins has a new address space, so what was taken before is forgotten, except for what is
+/// there at the start.
 pub fn take(
     alloc: Global,
     start: &Taken,

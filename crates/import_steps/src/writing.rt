@@ -56,8 +56,8 @@ fn push_backing(text: &mut LineText, flags: Flags, file: u64, off: u64)
     }
 }
 
-// Appends the request.
-fn push_asked(text: &mut LineText, request: Request)
+/// Appends the request.
+pub fn push_asked(text: &mut LineText, request: Request)
     requires { length text.old.bytes + 110 ≤ 256 }
     ensures bytes { text.new.bytes ≡ text.old.bytes ++ asked_text request }
     ensures short { length text.new.bytes ≤ length text.old.bytes + 110 }
@@ -129,8 +129,8 @@ fn put_use(text: &mut LineText, number: u64, len: u64)
     text.push_str("\n");
 }
 
-// Replaces the text by the first line, of this many frames, threads and requests.
-fn put_first(text: &mut LineText, frames: u64, threads: usize, steps: usize)
+/// Replaces the text by the first line, of this many frames, threads and requests.
+pub fn put_first(text: &mut LineText, frames: u64, threads: usize, steps: usize)
     ensures { text.new.bytes ≡ first_line frames threads steps }
 {
     text.clear();
@@ -249,8 +249,8 @@ fn push_steps(all: &mut Vec<u8>, names: &[u8], steps: &TraceRequests) -> Result<
     Ok(())
 }
 
-/// The trace of what was taken: a `vm` line, a line for each file, and a line for each request, in order. Comments say what files
-/// are named.
+/// The trace of what was taken: a `vm` line, a line for each file, and a line for each request, in order. Comments say
+/// what files are named.
 pub fn write_taken(alloc: Global, taken: &Taken, frames: u64) -> Result<Vec<u8>, AllocError>
     ensures { IfOk result (λ all. all.items ≡ imported_text frames (so_far taken.now)) }
 {

@@ -1,12 +1,13 @@
 -- Outcomes that aren't there
-use Rattle.std.proofs.Common.{◌≡◌, ◌∙◌, ℕ, ◌+◌, ◌-◌, ◌<◌, ◌≤◌, List, [], ◌∷◌, Option, None, Some, Vec, All, inl, inr, arith, length, map, slice_get, subst, sym, refl, zero, suc}
+use Rattle.std.proofs.Common.{◌≡◌, ◌∙◌, ℕ, ◌+◌, ◌-◌, ◌<◌, ◌≤◌, List, [], ◌∷◌, Option, None, Some, Ok, Vec, All, inl, inr, arith, length, map}
+use Rattle.std.proofs.Common.{slice_get, subst, sym, refl, zero, suc}
 use Rattle.std.proofs.lemmas.List.{length-map}
 use Rattle.std.proofs.lemmas.List.Sorted.{length_permutation}
 use Rattle.litmus_outcomes.specs.declared.outcome.Outcomes.{Outcomes}
 use Rattle.litmus_report.specs.Reports.{AreSorted, row_text, texts_of}
 use Rattle.litmus_report.specs.Texts.{outcome_text}
-use Rattle.litmus_text.specs.Scripts.{Read}
-use Rattle.litmus.specs.Tells.{Fails, IsUnshown, ended, known_of}
+use Rattle.litmus_text.specs.Scripts.{Read, litmus_of}
+use Rattle.litmus.specs.Tells.{Fails, IsUnshown, Lacks, Lists, ended, known_of}
 use Rattle.litmus.specs.declared.faults.TestFault.{TestFault}
 use Rattle.litmus.specs.declared.telling.Listing.{Listing}
 
@@ -48,8 +49,8 @@ no_gap r found rows k row s at none =
     absurd cc
 
 -- nothing is told of a test
-pub fails_so : {A : Type 0} (view : Listing) (lines : List (List ℕ)) (r : Read) (found : Outcomes A) (fault : TestFault) → IsUnshown view r found fault
-    → Fails view lines fault
-fails_so view lines r found fault (inl late) = inl (inl late)
-fails_so view lines r found fault (inr (number, is, inl none)) = inl (inr (number, is, inl none.0))
-fails_so view lines r found fault (inr (number, is, inr bare)) = inl (inr (number, is, inr bare.0))
+pub fails_so : {A : Type 0} (view : Listing) (lines : List (List ℕ)) (r : Read) (found : Outcomes A) (fault : TestFault) → litmus_of lines ≡ Ok r
+    → Lists r found → IsUnshown view r found fault → Fails A view lines fault
+fails_so view lines r found fault is lists (inl late) = inl (inl late)
+fails_so view lines r found fault is lists (inr missing) =
+    inl (inr (record { test = r; is = is; found = found; lists = lists; missing = missing }))

@@ -13,8 +13,8 @@ TellsAs A name Program limit counts lines text status = TellsProgram lines text 
 TellsAs A name Observed limit counts lines text status = TellsObserved A limit counts lines text status
 TellsAs A name (Live runs) limit counts lines text status = TellsLive limit runs lines text status
 
-abbrev pub FailsAs : LitmusAsk → List (List ℕ) → List (List ℕ) → TestFault → Type 0
-FailsAs (Asks view) counts lines fault = Fails view lines fault
-FailsAs Program counts lines fault = FailsProgram lines fault
-FailsAs Observed counts lines fault = FailsObserved counts lines fault
-FailsAs (Live runs) counts lines fault = FailsLive lines fault
+abbrev pub FailsAs : Type 0 → LitmusAsk → List (List ℕ) → List (List ℕ) → TestFault → Type 0
+FailsAs A (Asks view) counts lines fault = Fails A view lines fault
+FailsAs A Program counts lines fault = FailsProgram lines fault
+FailsAs A Observed counts lines fault = FailsObserved counts lines fault
+FailsAs A (Live runs) counts lines fault = FailsLive lines fault

@@ -118,10 +118,15 @@ IsMissing view r found fault =
 abbrev pub IsUnshown : {A : Type 0} → Listing → Read → Outcomes A → TestFault → Type 0
 IsUnshown view r found fault = IsLate fault ⊎ IsMissing view r found fault
 
--- the view asks for this outcome
-abbrev pub IsUnasked : Listing → TestFault → Type 0
-IsUnasked view fault = (number : ℕ) × (view ≡ Shown.Witness number) × ((fault ≡ Why.NoOutcome number) ⊎ (fault ≡ Why.NoWitness number))
+-- The test that the lines are has outcomes, and the one that is asked for isn't among them, or has no witness.
+pub record Lacks (A : Type 0) (view : Listing) (lines : List (List ℕ)) (fault : TestFault) : Type 0 where
+  pub test : Read
+  pub is : litmus_of lines ≡ Ok test
+  pub found : Outcomes A
+  pub lists : Lists test found
+  pub missing : IsMissing view test found fault
 
 -- Nothing is told: for want of memory, for the opening, for an outcome that isn't there, or for the first fault of the text.
-abbrev pub Fails : Listing → List (List ℕ) → TestFault → Type 0
-Fails view lines fault = (IsLate fault ⊎ IsUnasked view fault) ⊎ ((f : LitmusFault) × (litmus_of lines ≡ Err f) × (fault ≡ Why.Text f))
+abbrev pub Fails : Type 0 → Listing → List (List ℕ) → TestFault → Type 0
+Fails A view lines fault =
+    (IsLate fault ⊎ Lacks A view lines fault) ⊎ ((f : LitmusFault) × (litmus_of lines ≡ Err f) × (fault ≡ Why.Text f))

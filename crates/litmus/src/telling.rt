@@ -389,7 +389,7 @@ pub fn tell_litmus<A: Allocator + Clone + Drop>(
     limit: usize,
 ) -> Result<Output<A>, TestFault>
     ensures ok { IfOk result (λ told. Tells A name.now view limit (lines_of text.now) told.text.items told.status) }
-    ensures err { IfErr result (Fails view (lines_of text.now)) }
+    ensures err { IfErr result (Fails A view (lines_of text.now)) }
 {
     let script = match read_litmus(alloc, text) {
         Ok(script) => script,
@@ -496,7 +496,7 @@ pub fn tell<R: Threads + Wait + Sync>(
     limit: usize,
 ) -> Result<Output<Global>, TestFault>
     ensures ok { IfOk result (λ told. TellsAs GlobalOf name.now wanted limit (lines_of counts.now) (lines_of text.now) told.text.items told.status) }
-    ensures err { IfErr result (FailsAs wanted (lines_of counts.now) (lines_of text.now)) }
+    ensures err { IfErr result (FailsAs GlobalOf wanted (lines_of counts.now) (lines_of text.now)) }
 {
     match wanted {
         LitmusAsk::Outcomes(view) => tell_litmus(alloc, name, text, view, limit),

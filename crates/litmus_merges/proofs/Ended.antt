@@ -1,5 +1,6 @@
 -- Ends of nodes
-use Rattle.std.proofs.Common.{◌≡◌, ℕ, zero, ◌+◌, ◌<◌, ◌≤◌, ◌⊎◌, inl, inr, Bool, List, [], ◌∷◌, ◌++◌, Some, arith, ap, length, map, refl, slice_get, sym, subst, ◌∙◌}
+use Rattle.std.proofs.Common.{◌≡◌, ℕ, zero, ◌+◌, ◌<◌, ◌≤◌, ◌⊎◌, inl, inr, Bool, List, [], ◌∷◌, ◌++◌, Some, arith, ap, length, map, refl, slice_get}
+use Rattle.std.proofs.Common.{sym, subst, ◌∙◌}
 use Rattle.vm_base.specs.declared.replies.Reply.{Reply}
 use Rattle.frames.specs.Files.{FileParts}
 use Rattle.litmus_merges.specs.declared.asked.Asked.{Asked}

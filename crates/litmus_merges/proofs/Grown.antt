@@ -1,5 +1,6 @@
 -- What more nodes keep
-use Rattle.std.proofs.Common.{◌≡◌, ℕ, Bool, zero, suc, ◌+◌, ◌<◌, ◌≤◌, ◌⊎◌, inl, inr, List, [], ◌∷◌, ◌++◌, Option, Some, None, arith, ap, length, map, refl, replicate, set, slice_get, sym, subst, ◌∙◌}
+use Rattle.std.proofs.Common.{◌≡◌, ℕ, Bool, zero, suc, ◌+◌, ◌<◌, ◌≤◌, ◌⊎◌, inl, inr, List, [], ◌∷◌, ◌++◌, Option, Some, None, arith, ap, length, map}
+use Rattle.std.proofs.Common.{refl, replicate, set, slice_get, sym, subst, ◌∙◌}
 use Rattle.std.proofs.lemmas.List.{length-replicate, length-set}
 use Rattle.std.specs.Prelude.{option_map}
 use Rattle.std.proofs.lemmas.Option.{slice_get-map}
@@ -15,7 +16,8 @@ use Rattle.litmus_merges.proofs.Orders.{all_ends}
 use Rattle.litmus_merges.specs.declared.ending.End.{End}
 use Rattle.litmus_merges.specs.declared.nodes.Node.{Node}
 use Rattle.litmus_merges.specs.declared.change.MapChange.{MapChange}
-use Rattle.litmus_merges.specs.Nodes.{AreAll, AreAllSound, AreBackward, AreEnds, AreReached, Comes, HasAlike, HasEndOf, HasPoint, HaveEnds, IsExplored, IsNext, IsNextNode, IsNode, IsTurned, Keeps, point_of}
+use Rattle.litmus_merges.specs.Nodes.{AreAll, AreAllSound, AreBackward, AreEnds, AreReached, Comes, HasAlike, HasEndOf, HasPoint, HaveEnds}
+use Rattle.litmus_merges.specs.Nodes.{IsExplored, IsNext, IsNextNode, IsNode, IsTurned, Keeps, point_of}
 use Rattle.litmus_merges.specs.Steps.{AreSound, StepsAfter, after_any, map_of}
 use Rattle.litmus_merges.proofs.Lists.{below, get_new, get_old, get_one, get_some, get_within, old_or_new}
 

@@ -1,5 +1,6 @@
 -- Maps that steps make, one step after another
-use Rattle.std.proofs.Common.{◌≡◌, ◌≢◌, ℕ, nat_lt, ◌+◌, ◌<◌, ◌≤◌, ◌==◌, ◌++◌, ◌∷◌, [], List, Bool, true, false, cond, not, Option, Some, None, IfSome, is_some, length, take, get_or, slice_get}
+use Rattle.std.proofs.Common.{◌≡◌, ◌≢◌, ℕ, nat_lt, ◌+◌, ◌<◌, ◌≤◌, ◌==◌, ◌++◌, ◌∷◌, [], List, Bool, true, false, cond, not, Option, Some, None, IfSome}
+use Rattle.std.proofs.Common.{is_some, length, take, get_or, slice_get}
 use Rattle.std.proofs.Common.{refl, sym, subst, ◌∙◌, ap, ◌⊎◌, inl, inr}
 use Rattle.std.proofs.lemmas.List.{take_all, take_more}
 use Rattle.vm_base.proofs.Functions.{by_test, eq_true, put_other}

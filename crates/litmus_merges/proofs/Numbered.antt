@@ -1,5 +1,6 @@
 -- Numbers of ends
-use Rattle.std.proofs.Common.{◌≡◌, ◌≢◌, ℕ, zero, suc, ◌+◌, ◌<◌, ◌≤◌, ◌⊎◌, inl, inr, List, [], ◌∷◌, ◌++◌, Option, Some, ap, arith, get_or, length, refl, slice_get, subst, sym, take, ◌∙◌}
+use Rattle.std.proofs.Common.{◌≡◌, ◌≢◌, ℕ, zero, suc, ◌+◌, ◌<◌, ◌≤◌, ◌⊎◌, inl, inr, List, [], ◌∷◌, ◌++◌, Option, Some, ap, arith, get_or, length}
+use Rattle.std.proofs.Common.{refl, slice_get, subst, sym, take, ◌∙◌}
 use Rattle.std.proofs.lemmas.List.{take_all, take_more}
 use Rattle.vm_base.specs.declared.replies.Reply.{Reply}
 use Rattle.slot_lock.specs.declared.map_list.MapLine.{MapLine}

@@ -1,5 +1,6 @@
 -- Steps that may change places make the same of each map, and a step that covers another leaves nothing of it
-use Rattle.std.proofs.Common.{◌≡◌, ◌≢◌, ℕ, ◌≤◌, ◌<◌, ◌-◌, ◌==◌, ◌&&◌, ◌||◌, nat_le, nat_lt, not, Bool, true, false, cond, Option, Some, None, ◌⊎◌, inl, inr, refl, sym, subst, ◌∙◌, ap, arith}
+use Rattle.std.proofs.Common.{◌≡◌, ◌≢◌, ℕ, ◌≤◌, ◌<◌, ◌-◌, ◌==◌, ◌&&◌, ◌||◌, nat_le, nat_lt, not, Bool, true, false, cond, Option, Some, None, ◌⊎◌}
+use Rattle.std.proofs.Common.{inl, inr, refl, sym, subst, ◌∙◌, ap, arith}
 use Rattle.std.proofs.Math.Path.{fun_ext}
 use Rattle.std.proofs.lemmas.Bool.Decides.{nat_tests}
 use Rattle.vm_base.proofs.Functions.{eq_true, eq_false, put_other, put_same}
@@ -15,7 +16,8 @@ use Rattle.slot_lock.specs.declared.plan.Change.TheVariants.{Put, Clear, Protect
 use Rattle.slot_lock.specs.Plan.{range_of}
 use Rattle.litmus_merges.specs.declared.change.MapChange.{MapChange}
 use Rattle.litmus_merges.specs.declared.change.MapChange.TheVariants as StepOf
-use Rattle.litmus_merges.specs.Passing.{Commute, Covers, are_apart, change_covers, change_passes, copy_passes, covers, file_covers, file_passes, is_inside, is_within, may_pass, own_covers, own_passes, protects_within, spares}
+use Rattle.litmus_merges.specs.Passing.{Commute, Covers, are_apart, change_covers, change_passes, copy_passes, covers, file_covers, file_passes}
+use Rattle.litmus_merges.specs.Passing.{is_inside, is_within, may_pass, own_covers, own_passes, protects_within, spares}
 use Rattle.litmus_merges.specs.Steps.{entry_with, own_with}
 use Rattle.litmus_merges.proofs.Acted.{acted, changed, commute_by, copy_of, covers_by, filed, with_bytes}
 

@@ -1,5 +1,6 @@
 -- Lists of steps with one more put in, and with covered ones taken out
-use Rattle.std.proofs.Common.{◌≡◌, ℕ, Bool, true, get_or, zero, suc, ◌+◌, ◌≤◌, ◌<◌, List, [], ◌∷◌, ◌++◌, Option, Some, None, IfSome, ap, arith, drop, length, refl, slice_get, subst, sym, take, ◌∙◌, ◌⊎◌, inl, inr}
+use Rattle.std.proofs.Common.{◌≡◌, ℕ, Bool, true, get_or, zero, suc, ◌+◌, ◌≤◌, ◌<◌, List, [], ◌∷◌, ◌++◌, Option, Some, None, IfSome, ap, arith, drop}
+use Rattle.std.proofs.Common.{length, refl, slice_get, subst, sym, take, ◌∙◌, ◌⊎◌, inl, inr}
 use Rattle.std.specs.List.{insert, remove}
 use Rattle.vm_base.specs.Plain.{Plain}
 use Rattle.litmus_merges.specs.declared.change.MapChange.{MapChange}

@@ -1,5 +1,6 @@
 -- The turn of a request is the plain map's
-use Rattle.std.proofs.Common.{◌≡◌, ℕ, ◌*◌, not, Bool, true, false, cond, Option, Some, None, Result, Ok, IfSome, is_some, if◌then◌else◌, refl, sym, subst, ◌∙◌, ap}
+use Rattle.std.proofs.Common.{◌≡◌, ℕ, ◌*◌, not, Bool, true, false, cond, Option, Some, None, Result, Ok, IfSome, is_some, if◌then◌else◌, refl, sym}
+use Rattle.std.proofs.Common.{subst, ◌∙◌, ap}
 use Rattle.std.proofs.Math.Path.{fun_ext}
 use Rattle.vm_base.specs.declared.info.Back.{Back}
 use Rattle.vm_base.specs.declared.info.Back.TheVariants.{Anon, Shared, Private}

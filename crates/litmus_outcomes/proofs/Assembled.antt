@@ -1,5 +1,6 @@
 -- What is known of opened machines, and how outcomes come together
-use Rattle.machine_model.proofs.Words.{◌≡◌, ℕ, ◌<◌, ◌≤◌, Bool, true, false, List, [], ◌∷◌, length, slice_get, None, Some, refl, sym, ◌∙◌, ap, subst, arith, nat_tests}
+use Rattle.machine_model.proofs.Words.{◌≡◌, ℕ, ◌<◌, ◌≤◌, Bool, true, false, List, [], ◌∷◌, length, slice_get, None, Some, refl, sym, ◌∙◌, ap, subst}
+use Rattle.machine_model.proofs.Words.{arith, nat_tests}
 use Rattle.machine_model.proofs.Words.{World, Made, Run, new_world, Replays, Plain, nothing_mapped, Slots, IsNew, Reply}
 use Rattle.machine_model.specs.declared.event.Event.{Event}
 use Rattle.machine_model.specs.declared.event.Outcome.{Outcome}

@@ -1,6 +1,8 @@
 -- The entry that a step logs is a turn of the call that it is of
-use Rattle.machine_model.proofs.Words.{◌≡◌, ◌≢◌, ℕ, ◌++◌, ◌∷◌, [], Bool, true, false, cond, List, Option, Some, None, refl, sym, ◌∙◌, ap, subst, arith, if◌then◌else◌}
-use Rattle.machine_model.proofs.Words.{nth, Plain, Entry, Detach, EntryLeads, Replays, Reply, Done, NoFrame, NoMemory, Request, World, IsPlace, Stands, Access, PageInfo, IsPage}
+use Rattle.machine_model.proofs.Words.{◌≡◌, ◌≢◌, ℕ, ◌++◌, ◌∷◌, [], Bool, true, false, cond, List, Option, Some, None, refl, sym, ◌∙◌, ap, subst}
+use Rattle.machine_model.proofs.Words.{arith, if◌then◌else◌}
+use Rattle.machine_model.proofs.Words.{nth, Plain, Entry, Detach, EntryLeads, Replays, Reply, Done, NoFrame, NoMemory, Request, World, IsPlace}
+use Rattle.machine_model.proofs.Words.{Stands, Access, PageInfo, IsPage}
 use Rattle.vm_base.specs.declared.log.Entry.TheVariants.{Answer}
 use Rattle.vm_base.specs.declared.replies.Reply.TheVariants as ReplyOf
 use Rattle.vm_base.specs.declared.requests.Request.TheVariants as RequestOf

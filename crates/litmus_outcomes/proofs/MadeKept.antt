@@ -2,7 +2,8 @@
 use Rattle.machine_model.proofs.Words.{◌≡◌, ℕ, refl, ap, World, Step}
 use Rattle.machine_model.specs.declared.event.Event.{Event}
 use Rattle.machine_model.specs.declared.event.Outcome.{Outcome}
-use Rattle.machine_model.proofs.Shapes.{GoesBy, moves, divides, cuts, fits, owns, lets_go, answers, posts, commits, takes, zeroes, first_copies, caches, shares, posts_copy}
+use Rattle.machine_model.proofs.Shapes.{GoesBy, moves, divides, cuts, fits, owns, lets_go, answers, posts, commits, takes, zeroes, first_copies}
+use Rattle.machine_model.proofs.Shapes.{caches, shares, posts_copy}
 use Rattle.machine_model.proofs.Shapes.{copies, installs, accesses, faults, Works, clears, invalidates, walks, evicts, flushes, reviews, frees}
 use Rattle.machine_model.proofs.Shapes.{Shape, rests, begins, ends, goes, aims, gives_up, works, joins, Comes, stopped, acts, comes}
 use Rattle.machine_model.specs.Step.{with_event}

@@ -1,5 +1,6 @@
 -- The replies that a run performs are a combination: each entry that it logs is a turn.
-use Rattle.machine_model.proofs.Words.{◌≡◌, ◌≢◌, ℕ, zero, suc, ◌==◌, ◌++◌, ◌∷◌, [], Bool, true, false, List, length, Option, Some, None, refl, sym, ◌∙◌, ap, subst}
+use Rattle.machine_model.proofs.Words.{◌≡◌, ◌≢◌, ℕ, zero, suc, ◌==◌, ◌++◌, ◌∷◌, [], Bool, true, false, List, length, Option, Some, None, refl, sym}
+use Rattle.machine_model.proofs.Words.{◌∙◌, ap, subst}
 use Rattle.machine_model.proofs.Words.{nth, put, Plain, EntryLeads, Replays, Reply, NoFrame, NoMemory, Request}
 use Rattle.machine_model.proofs.Words.{World, Step, Run, after_call, to, answer_entry, detach_entry, put_other, put_same}
 use Rattle.machine_model.specs.declared.event.Event.{Event}

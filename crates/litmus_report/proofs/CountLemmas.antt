@@ -2,7 +2,8 @@
 use Rattle.std.proofs.Common.{◌≡◌, ℕ, suc, ◌+◌, Bool, true, false, if◌then◌else◌, List, [], ◌∷◌, ◌++◌, Option, Some, None, Vec, drop, map, refl, sym}
 use Rattle.std.proofs.Common.{ap, ◌∙◌, append-nil, append_assoc, arith}
 use Rattle.std.specs.List.{flat_map}
-use Rattle.litmus_report.specs.Counts.{bad_line, bytes_of, is_bad}
+use Rattle.litmus_report.specs.Counts.{bad_line, bytes_of, count_line, has_counts, has_outside, is_bad, judged_end, judged_status}
+use Rattle.litmus_report.specs.declared.reporting.Searched.{Searched}
 
 -- one line more
 pub marked_more : (F : List ℕ → List ℕ) (out new line : List ℕ) (all rest : List (List ℕ)) (whole : List ℕ) → all ≡ line ∷ rest
@@ -42,3 +43,23 @@ texts_more old new text piece left rest whole n t e h =
     ap (λ l. map bytes_of l ++ rest) n ∙ ap (λ l. l ++ rest) (map-push bytes_of old text)
     ∙ append_assoc (map bytes_of old) (bytes_of text ∷ []) rest ∙ ap (λ b. map bytes_of old ++ b ∷ rest) t
     ∙ ap (λ l. map bytes_of old ++ l) (sym e) ∙ h
+
+-- the counts, each marked, and how the search ended
+pub judged_text : {A : Type 0} (lines : List (List ℕ)) (s : Searched) {texts slice : List (Vec ℕ A)} {plain : List (List ℕ)}
+    {first mid new : List ℕ} {counted exact reached : Bool} → first ≡ [] → mid ≡ first ++ flat_map (count_line (map bytes_of slice)) lines
+    → new ≡ mid ++ judged_end counted s exact → slice ≡ texts → map bytes_of texts ≡ plain → counted ≡ has_counts lines → exact ≡ reached
+    → new ≡ flat_map (count_line plain) lines ++ judged_end (has_counts lines) s reached
+judged_text lines s {slice = slice} {plain = plain} {counted = counted} {exact = exact} f m n v t h e =
+    n ∙ ap (λ l. l ++ judged_end counted s exact) (m ∙ ap (λ l. l ++ flat_map (count_line (map bytes_of slice)) lines) f)
+    ∙ ap (λ ts. flat_map (count_line (map bytes_of ts)) lines ++ judged_end counted s exact) v
+    ∙ ap (λ p. flat_map (count_line p) lines ++ judged_end counted s exact) t
+    ∙ ap (λ b. flat_map (count_line plain) lines ++ judged_end b s exact) h
+    ∙ ap (λ b. flat_map (count_line plain) lines ++ judged_end (has_counts lines) s b) e
+
+-- the status of counts
+pub status_judged : {A : Type 0} (lines : List (List ℕ)) (whole : Bool) {texts slice : List (Vec ℕ A)} {plain : List (List ℕ)} {n : ℕ}
+    {counted outside : Bool} → n ≡ judged_status counted outside whole → outside ≡ has_outside (map bytes_of slice) lines → slice ≡ texts
+    → map bytes_of texts ≡ plain → counted ≡ has_counts lines → n ≡ judged_status (has_counts lines) (has_outside plain lines) whole
+status_judged lines whole {plain = plain} {counted = counted} n o v t h =
+    n ∙ ap (λ b. judged_status counted b whole) (o ∙ ap (λ ts. has_outside (map bytes_of ts) lines) v ∙ ap (λ p. has_outside p lines) t)
+    ∙ ap (λ b. judged_status b (has_outside plain lines) whole) h

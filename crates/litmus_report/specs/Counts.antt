@@ -89,13 +89,26 @@ is_outside mark = false
 abbrev pub has_outside : List (List ℕ) → List (List ℕ) → Bool
 has_outside texts lines = list_any (λ line. is_outside (mark_of texts line)) lines
 
+-- one of the lines is a count
+abbrev pub has_counts : List (List ℕ) → Bool
+has_counts lines = list_any (λ line. not (is_passed line)) lines
+
+-- how the search for outcomes ended, where something was counted
+abbrev pub judged_end : Bool → Searched → Bool → List ℕ
+judged_end counted searched exact = if counted then end_text searched exact else codes "nothing was observed\n"
+
 -- the counts, each marked, and how the search for outcomes ended
 abbrev pub counts_text : Known → Searched → List (List ℕ) → List ℕ
-counts_text k searched lines = flat_map (count_line (plain_texts k)) lines ++ end_text searched (are_reached k.outcomes)
+counts_text k searched lines =
+    flat_map (count_line (plain_texts k)) lines ++ judged_end (has_counts lines) searched (are_reached k.outcomes)
 
 -- 1 where an outcome can't come about, and 3 where that isn't known of one, since not all outcomes are listed
 abbrev pub outside_status : Bool → Bool → ℕ
 outside_status outside whole = if outside then (if whole then 1 else 3) else 0
 
+-- the same, and 3 where nothing was counted
+abbrev pub judged_status : Bool → Bool → Bool → ℕ
+judged_status counted outside whole = if counted then outside_status outside whole else 3
+
 abbrev pub counts_status : Known → Bool → List (List ℕ) → ℕ
-counts_status k whole lines = outside_status (has_outside (plain_texts k) lines) whole
+counts_status k whole lines = judged_status (has_counts lines) (has_outside (plain_texts k) lines) whole

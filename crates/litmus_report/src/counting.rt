@@ -3,7 +3,7 @@ ghost use Rattle.std.specs.Prelude.{◌≡◌, ◌≤◌, ◌++◌, IfOk, OnOk, 
 ghost use Rattle.std.specs.List.{flat_map, list_any};
 ghost use Rattle.trace_io.specs.Lines.{lines_of};
 ghost use Rattle.litmus_report.specs.Counts.{bad_line, behind_colon, bytes_of, count_line, counted, counts_status, counts_text, digits_before};
-ghost use Rattle.litmus_report.specs.Counts.{has_outside, is_bad, is_digit};
+ghost use Rattle.litmus_report.specs.Counts.{has_counts, has_outside, is_bad, is_digit, judged_end, judged_status};
 ghost use Rattle.litmus_report.specs.Counts.{is_listed, is_outside, is_passed, mark_by, mark_of, marked_text, outside_status, plain_texts};
 ghost use Rattle.litmus_report.specs.Reports.{known};
 
@@ -222,6 +222,21 @@ fn has_outside<A: Allocator>(texts: &[Vec<u8, A>], counts: &[u8]) -> bool
     false
 }
 
+// Tells whether one of the lines is a count.
+fn has_counts(counts: &[u8]) -> bool
+    ensures { result ≡ has_counts (lines_of counts.now) }
+{
+    let mut rest = counts;
+    'lines: while !rest.is_empty() {
+        let (line, more) = front_line(rest);
+        if !is_passed(line) {
+            return true;
+        }
+        rest = more;
+    }
+    false
+}
+
 fn outside_status(outside: bool, whole: bool) -> u8
     ensures { result ≡ outside_status outside whole }
 {
@@ -234,9 +249,35 @@ fn outside_status(outside: bool, whole: bool) -> u8
     }
 }
 
+fn judged_status(counted: bool, outside: bool, whole: bool) -> u8
+    ensures { result ≡ judged_status counted outside whole }
+{
+    if counted {
+        outside_status(outside, whole)
+    } else {
+        3
+    }
+}
+
+// Appends how the search for outcomes ended, where something was counted.
+fn add_judged_end<A: Allocator>(
+    out: &mut Vec<u8, A>,
+    counted: bool,
+    searched: Searched,
+    exact: bool,
+) -> Result<(), NoMemory>
+    ensures { OnOk result (out.new.items ≡ out.old.items ++ judged_end counted searched exact) }
+{
+    if counted {
+        add_end(out, searched, exact)
+    } else {
+        add_text(out, "nothing was observed\n")
+    }
+}
+
 /// What these counts come to, lines `COUNT: OUTCOME` that another system gave: each again, with ` (outside)` behind one whose outcome isn't
 /// listed, and then how the search for outcomes ended. The status is 1 where one isn't listed, but 3 where not all outcomes are
-/// known; and else 0. `Err` says that memory was refused.
+/// known, or nothing was counted; and else 0. `Err` says that memory was refused.
 pub fn judge_counts<T: HasOutcome, A: Allocator + Clone>(
     alloc: &A,
     named: &Named<'_>,
@@ -252,8 +293,9 @@ pub fn judge_counts<T: HasOutcome, A: Allocator + Clone>(
     let texts = plain_texts(alloc, named, outcomes)?;
     let mut text: Vec<u8, A> = Vec::new(alloc.clone()?);
     add_counts(&mut text, texts.as_slice(), counts)?;
-    add_end(&mut text, searched, are_reached(outcomes))?;
+    let counted = has_counts(counts);
+    add_judged_end(&mut text, counted, searched, are_reached(outcomes))?;
     let outside = has_outside(texts.as_slice(), counts);
-    let status = outside_status(outside, searched.whole);
+    let status = judged_status(counted, outside, searched.whole);
     Ok(Judged { text, status })
 }

@@ -1,5 +1,5 @@
 -- Slots that are made one again
-use Rattle.std.specs.Prelude.{◌≡◌, ℕ, ◌+◌, ◌-◌, Bool, true, false, [], ◌∷◌, Option, Some, None}
+use Rattle.std.specs.Prelude.{◌≡◌, ℕ, ◌+◌, ◌-◌, false, [], ◌∷◌, Option, Some, None}
 use Rattle.vm_base.specs.declared.info.PageInfo.{PageInfo}
 use Rattle.vm_base.specs.Info.{info_from, is_leaf, unused}
 use Rattle.live_levels.specs.declared.act.Act.{Act}
@@ -37,16 +37,16 @@ abbrev pub begun_act : Option PageInfo → Act
 begun_act None = Clear
 begun_act (Some info) = Put info.meta
 
--- the slot stands for its parts: it has what they have, by a history of one change under the ticket
+-- the slot has just the pages of the parts
+abbrev pub HasPagesOf : Foldable → SlotView → Type 0
+HasPagesOf j s = (j.first ≡ s.first) × (j.end ≡ s.first + s.count)
+
+-- the slot stands for its parts: it has what they have, by a history of one change under the ticket,
+-- and isn't divided any more
 pub record StandsFor (j : Foldable) (ticket : ℕ) (s t : SlotView) : Type 0 where
-  pub pages : (j.first ≡ s.first) × (j.end ≡ s.first + s.count)
+  pub pages : HasPagesOf j s
   pub place : (t.first ≡ s.first) × (t.count ≡ s.count)
   pub owner : t.owner ≡ None
   pub content : t.content ≡ j.content
   pub changes : t.changes ≡ dated ticket (begun_act j.content) ∷ []
-
-module _ {S : Type 0} (stepped : S → ℕ → S → Type 0) (before now : S) where
-  -- the slot stands for its parts under the ticket of the step, which was noted, or nothing changed
-  abbrev pub Replaces : Foldable → SlotView → SlotView → Bool → Type 0
-  Replaces j s t true = (ticket : ℕ) × stepped before ticket now × StandsFor j ticket s t
-  Replaces j s t false = (now ≡ before) × (t ≡ s)
+  pub whole : t.divided ≡ false

@@ -1,11 +1,11 @@
 -- What a try to lock, cut or fold tells
-use Rattle.std.specs.Prelude.{◌≡◌, ◌≢◌, ◌⊎◌, ℕ, ◌+◌, ◌<◌, ◌≤◌, Option, Some, None}
+use Rattle.std.specs.Prelude.{◌≡◌, ◌≢◌, ◌⊎◌, ℕ, ◌+◌, ◌<◌, ◌≤◌, false, Option, Some, None}
 use Rattle.std.specs.Sync.Mutex.{mutex_guard_value}
-use Rattle.vm_base.specs.declared.page.PageRange.{PageRange}
 use Rattle.live_levels.specs.Parts.{DividesView}
 use Rattle.live_levels.specs.Slots.{HasPage, SlotView}
-use Rattle.live_levels.specs.declared.ask.Asked.{Asked}
-use Rattle.live_levels.specs.declared.ask.Asked.TheVariants as AskedOf
+use Rattle.live_levels.specs.declared.ask.AskedSlot.{AskedSlot}
+use Rattle.live_levels.specs.declared.fold.JoinedSlots.{JoinedSlots}
+use Rattle.live_levels.specs.declared.ask.AskedSlot.TheVariants as AskedOf
 use Rattle.live_levels.specs.declared.level.Next.{Next}
 use Rattle.live_levels.specs.declared.level.Next.TheVariants as NextOf
 use Rattle.live_levels.specs.declared.level.SlotCut.{SlotCut}
@@ -20,11 +20,12 @@ IsFreeFor core (Some owner) = owner ≡ core
 abbrev pub IsForAnother : ℕ → Option ℕ → Type 0
 IsForAnother core owner = ¬ IsFreeFor core owner
 
--- the slot begins at the cursor, ends by the end, and is no other core's
+-- the slot begins at the cursor, ends by the end, isn't divided, and is no other core's
 pub record IsLockable (core cursor end : ℕ) (s : SlotView) : Type 0 where
   pub begins : s.first ≡ cursor
   pub ends : cursor + s.count ≤ end
   pub free : IsFreeFor core s.owner
+  pub whole : s.divided ≡ false
 
 -- the slot has the cursor, and is another core's
 pub record IsOthers (core cursor : ℕ) (s : SlotView) : Type 0 where
@@ -39,7 +40,7 @@ pub record IsLarger (core cursor end : ℕ) (s : SlotView) : Type 0 where
 
 module _ {A : Type 0} where
   -- what a core that asks from the cursor on finds in a slot
-  abbrev pub Asks : ℕ → ℕ → ℕ → SlotView → Asked A → Type 0
+  abbrev pub Asks : ℕ → ℕ → ℕ → SlotView → AskedSlot A → Type 0
   Asks core cursor end s (AskedOf.Whole guard) =
       (mutex_guard_value guard ≡ s) × IsLockable core cursor end s
   Asks core cursor end s (AskedOf.Owned guard) =
@@ -61,9 +62,10 @@ module _ {S : Type 0} (stepped : S → ℕ → S → Type 0) (before now : S) wh
   Cuts owner s NoMemory = now ≡ before
   Cuts owner s Lost = now ≡ before
 
-  -- a step was noted exactly where slots were joined, which have the page
-  abbrev pub Folds : ℕ → Option PageRange → Type 0
-  Folds page (Some r) = Noted × ((r.first ≤ page) × (page < r.end))
+  -- a step was noted exactly where slots were joined, which have the page, under the ticket of the
+  -- slot's history that stands for them
+  abbrev pub Folds : ℕ → Option JoinedSlots → Type 0
+  Folds page (Some j) = stepped before j.ticket now × ((j.range.first ≤ page) × (page < j.range.end))
   Folds page None = now ≡ before
 
 module _ {A S : Type 0} (stepped : S → ℕ → S → Type 0) (before now : S) where

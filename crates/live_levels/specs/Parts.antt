@@ -25,18 +25,21 @@ abbrev pub IsPlaced : ℕ → ℕ → SlotView → Type 0
 IsPlaced first count s = (s.first ≡ first) × (s.count ≡ count)
 
 -- The slot has so many pages from the divided slot's page `by` on. Its first page has what it had,
--- by a history of one change under the division's ticket, and its owner is the one that was chosen
+-- by a history of one change under the division's ticket, its owner is the one that was chosen, and
+-- it isn't divided
 pub record IsPart (d : Divided) (pages by : ℕ) (s : SlotView) : Type 0 where
   pub place : IsPlaced (d.first + by) pages s
   pub owner : s.owner ≡ d.owner
   pub content : s.content ≡ info_from d.content by
   pub changes : s.changes ≡ dated d.ticket (carried_act d.content by) ∷ []
+  pub whole : s.divided ≡ false
 
--- unmapped, with no history, and no core is to lock it first
+-- unmapped, with no history, not divided, and no core is to lock it first
 pub record IsUnused (s : SlotView) : Type 0 where
   pub owner : s.owner ≡ None
   pub content : s.content ≡ None
   pub changes : s.changes ≡ []
+  pub whole : s.divided ≡ false
 
 -- 512 slots of so many pages lie side by side
 pub record AreSideBySide (first pages : ℕ) (slots : List SlotView) : Type 0 where
@@ -53,6 +56,10 @@ pub record DividesView (s : SlotView) (chosen : Option ℕ) (d : Divided) : Type
   pub first : d.first ≡ s.first
   pub content : d.content ≡ s.content
   pub owner : d.owner ≡ chosen
+
+-- this slot is the one that was divided
+abbrev pub IsDivided : Divided → SlotView → Type 0
+IsDivided d s = (d.first ≡ s.first) × (d.content ≡ s.content)
 
 -- the slots are the 512 parts of the divided slot, in order
 pub record AreParts (d : Divided) (pages : ℕ) (slots : List SlotView) : Type 0 where

@@ -1,5 +1,5 @@
 -- Slots as plain data: what lies under a slot's lock
-use Rattle.std.specs.Prelude.{◌≡◌, ℕ, ◌+◌, ◌-◌, ◌<◌, ◌≤◌, ◌^◌, false, List, [], ◌∷◌, ◌++◌, Option}
+use Rattle.std.specs.Prelude.{◌≡◌, ℕ, ◌+◌, ◌-◌, ◌<◌, ◌≤◌, ◌^◌, Bool, false, List, [], ◌∷◌, ◌++◌, Option}
 use Rattle.vm_base.specs.declared.info.PageInfo.{PageInfo}
 use Rattle.vm_base.specs.Info.{file_page, info_file_page, info_from, is_leaf}
 use Rattle.live_levels.specs.declared.act.Act.{Act}
@@ -7,8 +7,8 @@ use Rattle.live_levels.specs.declared.act.Act.TheVariants.{Put, Clear, Protect, 
 use Rattle.live_levels.specs.declared.act.SlotChange.{SlotChange}
 use Rattle.live_levels.specs.Replay.{after, replay}
 
--- a slot: its pages, its owner, what its first page has, its changes, and how many more fit without
--- memory
+-- a slot: its pages, its owner, what its first page has, its changes, how many more fit without
+-- memory, and whether it was divided, so that others have its pages
 pub record SlotView : Type 0 where
   pub first : ℕ
   pub count : ℕ
@@ -16,15 +16,17 @@ pub record SlotView : Type 0 where
   pub content : Option PageInfo
   pub changes : List SlotChange
   pub room : ℕ
+  pub divided : Bool
 
-abbrev pub slot_view : ℕ → ℕ → Option ℕ → Option PageInfo → List SlotChange → ℕ → SlotView
-slot_view first count owner content changes room = record {
+abbrev pub slot_view : ℕ → ℕ → Option ℕ → Option PageInfo → List SlotChange → ℕ → Bool → SlotView
+slot_view first count owner content changes room divided = record {
   first = first;
   count = count;
   owner = owner;
   content = content;
   changes = changes;
   room = room;
+  divided = divided;
 }
 
 -- What holds of every slot whose lock is free: its content is the replay of its history; it has
@@ -55,7 +57,8 @@ changed s c =
 abbrev pub content_at : SlotView → ℕ → Option PageInfo
 content_at s page = info_from s.content (page - s.first)
 
--- the slot has the page
+-- the slot isn't divided, and has the page
 pub record HasPage (s : SlotView) (page : ℕ) : Type 0 where
+  pub whole : s.divided ≡ false
   pub from : s.first ≤ page
   pub until : page < s.first + s.count

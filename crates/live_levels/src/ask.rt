@@ -10,14 +10,14 @@ use std::sync::MutexGuard;
 use vm_base::CoreId;
 
 /// What a core that asks for the slots from a cursor up to an end finds in a locked slot.
-pub enum Asked<'a, A: Allocator> {
+pub enum AskedSlot<'a, A: Allocator> {
     /// The slot begins at the cursor and ends by the end.
     Whole(MutexGuard<'a, SlotState<A>>),
     /// Another core is to lock it first.
     Owned(MutexGuard<'a, SlotState<A>>),
     /// It begins before the cursor or ends after the end.
     Larger(MutexGuard<'a, SlotState<A>>),
-    /// It doesn't have the cursor. That never comes.
+    /// It doesn't have the cursor, or is divided. That never comes.
     Lost,
 }
 
@@ -27,23 +27,23 @@ pub(crate) fn ask<'a, A: Allocator>(
     core: CoreId,
     cursor: u64,
     end: u64,
-) -> Asked<'a, A>
+) -> AskedSlot<'a, A>
     requires range { cursor < end }
     ensures { Asks core cursor end (mutex_guard_value guard.entry) result }
 {
     if !has_page(&guard, cursor) {
-        return Asked::Lost;
+        return AskedSlot::Lost;
     }
     if other_owner(&guard, core).is_some() {
-        return Asked::Owned(guard);
+        return AskedSlot::Owned(guard);
     }
     if guard.first() < cursor || guard.count() > end - cursor {
-        return Asked::Larger(guard);
+        return AskedSlot::Larger(guard);
     }
-    Asked::Whole(guard)
+    AskedSlot::Whole(guard)
 }
 
-/// The locked slot, where it has the page.
+/// The locked slot, where it has the page and isn't divided.
 pub(crate) fn with_page<'a, A: Allocator>(
     guard: MutexGuard<'a, SlotState<A>>,
     page: u64,
@@ -57,12 +57,12 @@ pub(crate) fn with_page<'a, A: Allocator>(
     }
 }
 
-// Tells whether the slot has the page.
+// Tells whether the slot has the page, and isn't divided.
 fn has_page<A: Allocator>(slot: &SlotState<A>, page: u64) -> bool
     ensures { IsTrue result ↔ HasPage slot.now page }
 {
     let first = slot.first();
-    first <= page && page - first < slot.count()
+    !slot.is_divided() && first <= page && page - first < slot.count()
 }
 
 /// The other core that is to lock the slot first.

@@ -1,7 +1,7 @@
 //! Slots that are made one again, once no thread shares the tree.
 ghost use Rattle.std.specs.Prelude.{◌≡◌, ◌+◌, ◌-◌, ◌<◌, ◌≤◌, ◌^◌, ◌↔◌, IsTrue, IfSome, IfNone, None};
 ghost use Rattle.std.specs.Prelude.{false};
-ghost use Rattle.live_levels.specs.Folding.{CanBegin, CanFollow, CanJoin, Joins, Replaces, begun_act};
+ghost use Rattle.live_levels.specs.Folding.{CanBegin, CanFollow, CanJoin, HasPagesOf, Joins, StandsFor, begun_act};
 ghost use Rattle.live_levels.specs.Slots.{Suits};
 
 use crate::act::Act;
@@ -10,7 +10,7 @@ use crate::level::Stepper;
 use crate::slot::SlotState;
 use std::alloc::Allocator;
 use vm_base::info::goes_on;
-use vm_base::is_leaf;
+use vm_base::{PageRange, is_leaf};
 
 // Tells whether the slot can be a part of a larger one.
 fn can_begin<A: Allocator>(slot: &SlotState<A>) -> bool
@@ -76,25 +76,56 @@ pub(crate) fn with_next<A: Allocator>(
     }
 }
 
-/// Lets the slot stand for its parts, which it had been divided into: it begins anew with one
-/// change, under the ticket of the step, which is noted. Answers false, and changes nothing, where
-/// they have other pages. It takes no memory.
-pub(crate) fn replace<A: Allocator, S: Stepper>(
-    slot: &mut SlotState<A>,
-    joint: &Foldable,
-    stepper: &mut S,
-) -> bool
-    requires { S.can_step stepper.old }
-    ensures { Replaces S.stepped stepper.old stepper.new joint.now slot.old slot.new result }
+/// Slots that were joined: their pages, and the ticket of the step. Only `replace` makes one, which
+/// takes their level away.
+#[derive(Clone, Copy)]
+pub struct JoinedSlots {
+    range: PageRange,
+    ticket: u64,
+}
+
+impl JoinedSlots {
+    /// The pages of the slots.
+    pub fn range(&self) -> PageRange
+        ensures { result ≡ self.now.range }
+    {
+        self.range
+    }
+}
+
+/// Tells whether the slot has just the pages of the parts.
+pub(crate) fn has_pages_of<A: Allocator>(slot: &SlotState<A>, joint: &Foldable) -> bool
+    ensures { IsTrue result ↔ HasPagesOf joint.now slot.now }
 {
     let first = slot.first();
-    if joint.first != first || joint.end != first + slot.count() {
-        return false;
-    }
+    joint.first == first && joint.end == first + slot.count()
+}
+
+/// Takes away the level of the parts, which the slot had been divided into, and lets the slot stand
+/// for them: it begins anew with one change, under the ticket of the step, which is noted. It takes
+/// no memory.
+pub(crate) fn replace<C: Drop, A: Allocator, S: Stepper>(
+    slot: &mut SlotState<A>,
+    _parts: Box<C, A>,
+    joint: &Foldable,
+    stepper: &mut S,
+) -> JoinedSlots
+    requires step { S.can_step stepper.old }
+    requires pages { HasPagesOf joint.now slot.old }
+    ensures stands { StandsFor joint.now result.ticket slot.old slot.new }
+    ensures noted { S.stepped stepper.old result.ticket stepper.new }
+    ensures range { (result.range.first ≡ joint.now.first) × (result.range.end ≡ joint.now.end) }
+{
     let act = begun_act(joint);
     let ticket = stepper.step();
     slot.restart(ticket, act, None);
-    true
+    JoinedSlots {
+        range: PageRange {
+            first: joint.first,
+            end: joint.end,
+        },
+        ticket,
+    }
 }
 
 // The change with which a slot begins that stands for its parts.

@@ -5,9 +5,9 @@ ghost use Rattle.live_levels.specs.Nexts.{Answers, Cuts, Folds};
 ghost use Rattle.live_levels.specs.Slots.{HasPage};
 ghost use Rattle.live_levels.specs.Histories.{Grew};
 
-use crate::ask::{Asked, ask, with_page};
-use crate::close::SlotHistory;
-use crate::fold::with_next;
+use crate::ask::{AskedSlot, ask, with_page};
+use crate::close::Kept;
+use crate::fold::{JoinedSlots, with_next};
 use crate::joint::Foldable;
 use crate::level::{Level, Next, SlotCut, Stepper, index_of, put};
 use crate::parts::SLOTS;
@@ -15,7 +15,7 @@ use crate::place::{Place, Reached, Unshared};
 use crate::slot::SlotState;
 use std::alloc::Allocator;
 use std::sync::{MutexGuard, Wait};
-use vm_base::{CoreId, NoMemory, PageRange};
+use vm_base::{CoreId, NoMemory};
 
 /// 512 slots of several pages, each under its lock or divided. A lookup takes no lock above the
 /// slot that it finds.
@@ -64,17 +64,19 @@ impl<C: Level<A>, A: Allocator + Clone> Level<A> for Inner<C, A> {
                 return below.lock_next(rt, alloc, stepper, core, cursor, end);
             }
             Reached::Slot(guard) => guard,
+            Reached::Lost => return Next::Lost,
         };
-        let larger = match ask(guard, core, cursor, end) {
-            Asked::Whole(guard) => return Next::Whole(guard),
-            Asked::Owned(guard) => return Next::Owned(guard),
-            Asked::Larger(guard) => guard,
-            Asked::Lost => return Next::Lost,
+        let mut larger = match ask(guard, core, cursor, end) {
+            AskedSlot::Whole(guard) => return Next::Whole(guard),
+            AskedSlot::Owned(guard) => return Next::Owned(guard),
+            AskedSlot::Larger(guard) => guard,
+            AskedSlot::Lost => return Next::Lost,
         };
-        let cut = place.split(alloc, stepper, &larger);
-        drop(larger);
-        match cut {
-            SlotCut::Cut(_) => Next::Split,
+        match place.split(alloc, stepper, &larger) {
+            SlotCut::Cut(division) => {
+                division.mark(&mut larger);
+                Next::Split
+            }
             SlotCut::Unseen(_) => Next::Unseen,
             SlotCut::NoMemory => Next::NoMemory,
             SlotCut::Lost => Next::Lost,
@@ -87,6 +89,7 @@ impl<C: Level<A>, A: Allocator + Clone> Level<A> for Inner<C, A> {
         match place.reach(rt) {
             Reached::Below(below) => below.lock_at(rt, page),
             Reached::Slot(guard) => with_page(guard, page),
+            Reached::Lost => None,
         }
     }
 
@@ -106,10 +109,10 @@ impl<C: Level<A>, A: Allocator + Clone> Level<A> for Inner<C, A> {
         place.cut(alloc, stepper, core, slot, self.pages)
     }
 
-    fn gather(&mut self, alloc: &A, slots: &mut Vec<SlotHistory<A>, A>, next: u64) -> Option<u64> {
+    fn gather<'a>(&'a mut self, slots: &mut Vec<Kept<'a, A>, A>, next: u64) -> Option<u64> {
         let mut at = next;
         'places: for place in self.places.iter_mut() {
-            let Some(end) = place.gather(alloc, slots, at) else {
+            let Some(end) = place.gather(slots, at) else {
                 return None;
             };
             at = end;
@@ -126,7 +129,7 @@ impl<C: Level<A>, A: Allocator + Clone> Level<A> for Inner<C, A> {
         };
         match place.reach_mut() {
             Unshared::Below(_) => true,
-            Unshared::Slot(_) => false,
+            Unshared::Slot(_) | Unshared::Lost => false,
         }
     }
 
@@ -134,10 +137,10 @@ impl<C: Level<A>, A: Allocator + Clone> Level<A> for Inner<C, A> {
         let mut joint: Option<Foldable> = None;
         'places: for place in self.places.iter_mut() {
             let slot = match place.reach_mut() {
-                Unshared::Below(_) => return None,
+                Unshared::Below(_) | Unshared::Lost => return None,
                 Unshared::Slot(slot) => slot,
             };
-            let Some(next) = with_next(joint, slot) else {
+            let Some(next) = with_next(joint, slot.slot()) else {
                 return None;
             };
             joint = Some(next);
@@ -145,7 +148,7 @@ impl<C: Level<A>, A: Allocator + Clone> Level<A> for Inner<C, A> {
         joint
     }
 
-    fn fold<S: Stepper>(&mut self, stepper: &mut S, page: u64) -> Option<PageRange> {
+    fn fold<S: Stepper>(&mut self, stepper: &mut S, page: u64) -> Option<JoinedSlots> {
         let index = index_of(self.first, self.pages, page)?;
         let place = self.places.get_mut(index)?;
         place.fold(stepper, page)

@@ -5,16 +5,16 @@ ghost use Rattle.live_levels.specs.Nexts.{Answers, Cuts, Folds};
 ghost use Rattle.live_levels.specs.Slots.{HasPage};
 ghost use Rattle.live_levels.specs.Histories.{Grew};
 
-use crate::ask::{Asked, ask, with_page};
-use crate::close::{SlotHistory, gather_slot};
-use crate::fold::with_next;
+use crate::ask::{AskedSlot, ask, with_page};
+use crate::close::{Kept, gather_slot};
+use crate::fold::{JoinedSlots, with_next};
 use crate::joint::Foldable;
 use crate::level::{Level, Next, SlotCut, Stepper, index_of, put};
 use crate::parts::SLOTS;
 use crate::slot::SlotState;
 use std::alloc::Allocator;
 use std::sync::{Mutex, MutexGuard, Wait};
-use vm_base::{CoreId, NoMemory, PageRange};
+use vm_base::{CoreId, NoMemory};
 
 /// 512 slots of one page, each under its lock.
 #[derive(Drop)]
@@ -53,10 +53,10 @@ impl<A: Allocator + Clone> Level<A> for Leaves<A> {
             return Next::Lost;
         };
         match ask(slot.lock(rt), core, cursor, end) {
-            Asked::Whole(guard) => Next::Whole(guard),
-            Asked::Owned(guard) => Next::Owned(guard),
-            Asked::Larger(_guard) => Next::Lost,
-            Asked::Lost => Next::Lost,
+            AskedSlot::Whole(guard) => Next::Whole(guard),
+            AskedSlot::Owned(guard) => Next::Owned(guard),
+            AskedSlot::Larger(_guard) => Next::Lost,
+            AskedSlot::Lost => Next::Lost,
         }
     }
 
@@ -76,10 +76,10 @@ impl<A: Allocator + Clone> Level<A> for Leaves<A> {
         SlotCut::Lost
     }
 
-    fn gather(&mut self, alloc: &A, slots: &mut Vec<SlotHistory<A>, A>, next: u64) -> Option<u64> {
+    fn gather<'a>(&'a mut self, slots: &mut Vec<Kept<'a, A>, A>, next: u64) -> Option<u64> {
         let mut at = next;
         'slots: for slot in self.slots.iter_mut() {
-            let Some(end) = gather_slot(alloc, slot.get_mut(), slots, at) else {
+            let Some(end) = gather_slot(Kept::of(slot)?, slots, at) else {
                 return None;
             };
             at = end;
@@ -94,7 +94,8 @@ impl<A: Allocator + Clone> Level<A> for Leaves<A> {
     fn joint(&mut self) -> Option<Foldable> {
         let mut joint: Option<Foldable> = None;
         'slots: for slot in self.slots.iter_mut() {
-            let Some(next) = with_next(joint, slot.get_mut()) else {
+            let slot = Kept::of(slot)?;
+            let Some(next) = with_next(joint, slot.slot()) else {
                 return None;
             };
             joint = Some(next);
@@ -102,7 +103,7 @@ impl<A: Allocator + Clone> Level<A> for Leaves<A> {
         joint
     }
 
-    fn fold<S: Stepper>(&mut self, _stepper: &mut S, _page: u64) -> Option<PageRange> {
+    fn fold<S: Stepper>(&mut self, _stepper: &mut S, _page: u64) -> Option<JoinedSlots> {
         None
     }
 }

@@ -7,14 +7,15 @@ ghost use Rattle.live_levels.specs.Nexts.{Answers, Cuts, IsFreeFor, Folds};
 ghost use Rattle.live_levels.specs.Slots.{HasPage};
 ghost use Rattle.live_levels.specs.Histories.{Grew};
 
-use crate::close::SlotHistory;
+use crate::close::Kept;
+use crate::fold::JoinedSlots;
 use crate::joint::Foldable;
 use crate::parts::{Divided, SLOTS};
 use crate::place::Division;
 use crate::slot::SlotState;
 use std::alloc::Allocator;
 use std::sync::{MutexGuard, Wait};
-use vm_base::{CoreId, NoMemory, PageRange};
+use vm_base::{CoreId, NoMemory};
 
 /// Who draws a ticket and notes a step under it. Whoever calls it holds the locks of all that the
 /// step touches.
@@ -50,9 +51,9 @@ pub enum Next<'a, A: Allocator> {
 }
 
 /// The result of a try to cut a slot.
-#[derive(Clone, Copy)]
 pub enum SlotCut {
-    /// The slot was divided, which was noted: threads reach its parts in its place.
+    /// The slot was divided, which was noted: threads reach its parts in its place. The slot itself
+    /// is to be marked, while it is locked.
     Cut(Division),
     /// The division was noted, but the slot's place had a level before. It never comes; the call
     /// gives up.
@@ -103,9 +104,9 @@ pub trait Level<A: Allocator + Clone>: Drop {
         requires { S.can_step stepper.old }
         ensures { Cuts S.stepped stepper.old stepper.new (Some core) slot.now result };
 
-    /// Adds the histories of all slots, which lie side by side from the page `next` on, and answers
-    /// the page after them. `None` where memory ran out, or a slot was in a wrong place.
-    fn gather(&mut self, alloc: &A, slots: &mut Vec<SlotHistory<A>, A>, next: u64) -> Option<u64>
+    /// Adds all slots that aren't divided, which lie side by side from the page `next` on, and
+    /// answers the page after them. `None` where memory ran out, or a slot was in a wrong place.
+    fn gather<'a>(&'a mut self, slots: &mut Vec<Kept<'a, A>, A>, next: u64) -> Option<u64>
         ensures { IfSome result (λ end. Grew next end slots.old.items slots.new.items) };
 
     /// Tells whether the slot of this level that has the page is divided.
@@ -115,8 +116,8 @@ pub trait Level<A: Allocator + Clone>: Drop {
     fn joint(&mut self) -> Option<Foldable>;
 
     /// Makes one slot of the deepest level that has the page, where that isn't this one and its
-    /// slots can be one, which is noted. Answers the slot's pages.
-    fn fold<S: Stepper>(&mut self, stepper: &mut S, page: u64) -> Option<PageRange>
+    /// slots can be one, which is noted.
+    fn fold<S: Stepper>(&mut self, stepper: &mut S, page: u64) -> Option<JoinedSlots>
         requires { S.can_step stepper.old }
         ensures { Folds S.stepped stepper.old stepper.new page result };
 }

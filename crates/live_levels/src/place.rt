@@ -1,25 +1,25 @@
 //! A place of a level: a slot, or the level in its place once it is divided.
 //!
 //! No clause can follow a value into a lock. So a place is tested when it is met, and a wrong one, which never comes,
-//! answers `Lost`. This is the one way to a slot: a look, the lock, and a second look, since the slot may have been
-//! divided meanwhile.
-ghost use Rattle.std.specs.Prelude.{◌≡◌, ℕ, ◌+◌, ◌*◌, ◌<◌, ◌≤◌, IfSome, Some};
+//! answers `Lost`. This is the one way to a slot: a look, the lock, and a second look, at the locked slot, which says
+//! whether it was divided meanwhile.
+ghost use Rattle.std.specs.Prelude.{◌≡◌, ℕ, ◌+◌, ◌*◌, ◌<◌, ◌≤◌, true, IfSome, Some};
 ghost use Rattle.live_levels.specs.Histories.{Grew};
 ghost use Rattle.live_levels.specs.Nexts.{Cuts, Folds};
-ghost use Rattle.live_levels.specs.Parts.{AreParts};
+ghost use Rattle.live_levels.specs.Parts.{AreParts, IsDivided};
+ghost use Rattle.live_levels.specs.Reached.{IsWhole};
 
-use crate::close::{SlotHistory, gather_slot};
-use crate::fold::replace;
+use crate::close::{Kept, gather_slot};
+use crate::fold::{JoinedSlots, has_pages_of, replace};
 use crate::level::{Level, SlotCut, Stepper, boxed};
 use crate::parts::{Divided, SLOTS, carry_on, side_by_side};
 use crate::slot::SlotState;
 use std::alloc::Allocator;
 use std::sync::{Mutex, MutexGuard, OnceLock, OnceToken, Wait};
-use vm_base::{CoreId, PageRange};
+use vm_base::CoreId;
 
 /// A slot that was divided. It is told only by what shows that the level with its parts was
-/// published, and so only here.
-#[derive(Clone, Copy)]
+/// published, and so only here. It may not be dropped: it ends by `mark`.
 pub struct Division {
     divided: Divided,
 }
@@ -29,6 +29,21 @@ impl Division {
         ensures { result.divided ≡ divided.now }
     {
         Division { divided: *divided }
+    }
+
+    /// The slot that was divided says so from now on, to whoever locks it next.
+    pub fn mark<A: Allocator>(self, slot: &mut SlotState<A>)
+        requires { IsDivided self.divided slot.old }
+        ensures { slot.new ≡ record slot.old { divided = true } }
+    {
+        let Division { divided: _ } = self;
+        slot.set_divided();
+    }
+
+    /// The parts weren't found in the slot's place, which never comes. The call that holds the slot
+    /// gives up.
+    pub fn give_up(self) {
+        let Division { divided: _ } = self;
     }
 }
 
@@ -46,6 +61,8 @@ pub(crate) enum Reached<'a, C, A: Allocator> {
     Below(&'a Box<C, A>),
     /// The slot, which isn't divided, locked.
     Slot(MutexGuard<'a, SlotState<A>>),
+    /// The slot is divided, and has no level in its place. It never comes.
+    Lost,
 }
 
 /// What is in a place that no thread shares.
@@ -53,7 +70,9 @@ pub(crate) enum Unshared<'a, C, A: Allocator> {
     /// The slot was divided: the level with its parts.
     Below(&'a mut Box<C, A>),
     /// The slot, which isn't divided.
-    Slot(&'a mut SlotState<A>),
+    Slot(Kept<'a, A>),
+    /// The slot is divided, and has no level in its place. It never comes.
+    Lost,
 }
 
 impl<C: Level<A>, A: Allocator + Clone> Place<C, A> {
@@ -65,24 +84,32 @@ impl<C: Level<A>, A: Allocator + Clone> Place<C, A> {
     }
 
     /// Looks for a level in the slot's place, and locks the slot where there is none. Then it looks
-    /// again: another thread may have divided the slot while this one waited for it.
-    pub(crate) fn reach<'a, R: Wait>(&'a self, rt: &R) -> Reached<'a, C, A> {
+    /// at the slot: another thread may have divided it while this one waited.
+    pub(crate) fn reach<'a, R: Wait>(&'a self, rt: &R) -> Reached<'a, C, A>
+        ensures { IsWhole result }
+    {
         if let Some(below) = self.below.get() {
             return Reached::Below(below);
         }
         let guard = self.slot.lock(rt);
-        if let Some(below) = self.below.get() {
-            drop(guard);
-            return Reached::Below(below);
+        if !guard.is_divided() {
+            return Reached::Slot(guard);
         }
-        Reached::Slot(guard)
+        drop(guard);
+        match self.below.get() {
+            Some(below) => Reached::Below(below),
+            None => Reached::Lost,
+        }
     }
 
     /// What is in the place, which no thread shares.
     pub(crate) fn reach_mut<'a>(&'a mut self) -> Unshared<'a, C, A> {
-        match self.below.get_mut() {
-            Some(below) => Unshared::Below(below),
-            None => Unshared::Slot(self.slot.get_mut()),
+        if let Some(below) = self.below.get_mut() {
+            return Unshared::Below(below);
+        }
+        match Kept::of(&mut self.slot) {
+            Some(slot) => Unshared::Slot(slot),
+            None => Unshared::Lost,
         }
     }
 
@@ -180,8 +207,8 @@ impl<C: Level<A>, A: Allocator + Clone> Place<C, A> {
     }
 
     /// Makes one slot of the deepest level below the place that has the page, where its slots can
-    /// be one, which is noted. Answers the slot's pages.
-    pub(crate) fn fold<S: Stepper>(&mut self, stepper: &mut S, page: u64) -> Option<PageRange>
+    /// be one, which is noted.
+    pub(crate) fn fold<S: Stepper>(&mut self, stepper: &mut S, page: u64) -> Option<JoinedSlots>
         requires { S.can_step stepper.old }
         ensures { Folds S.stepped stepper.old stepper.new page result }
     {
@@ -197,28 +224,28 @@ impl<C: Level<A>, A: Allocator + Clone> Place<C, A> {
         if page < joint.first || joint.end <= page {
             return None;
         }
-        if !replace(self.slot.get_mut(), &joint, stepper) {
+        let slot = self.slot.get_mut();
+        if !has_pages_of(slot, &joint) {
             return None;
         }
-        let _ = self.below.take();
-        Some(PageRange {
-            first: joint.first,
-            end: joint.end,
-        })
+        let Some(parts) = self.below.take() else {
+            return None;
+        };
+        Some(replace(slot, parts, &joint, stepper))
     }
 
-    /// Adds the histories of all slots below the place, or its own slot's.
-    pub(crate) fn gather(
-        &mut self,
-        alloc: &A,
-        slots: &mut Vec<SlotHistory<A>, A>,
+    /// Adds all slots below the place that aren't divided, or its own.
+    pub(crate) fn gather<'a>(
+        &'a mut self,
+        slots: &mut Vec<Kept<'a, A>, A>,
         next: u64,
     ) -> Option<u64>
         ensures { IfSome result (λ end. Grew next end slots.old.items slots.new.items) }
     {
         match self.reach_mut() {
-            Unshared::Below(below) => below.gather(alloc, slots, next),
-            Unshared::Slot(slot) => gather_slot(alloc, slot, slots, next),
+            Unshared::Below(below) => below.gather(slots, next),
+            Unshared::Slot(slot) => gather_slot(slot, slots, next),
+            Unshared::Lost => None,
         }
     }
 }

@@ -2,7 +2,7 @@
 //!
 //! Histories are optional, since notes as text have none. A certificate looks at a slot before each step that may
 //! change it, and at the end; one look settles all tickets in between.
-ghost use Rattle.std.specs.Prelude.{◌≡◌, ℕ, ◌+◌, ◌-◌, ◌<◌, ◌≤◌, ◌^◌, false, [], ◌∷◌, ◌++◌, None, IfOk};
+ghost use Rattle.std.specs.Prelude.{◌≡◌, ℕ, ◌+◌, ◌-◌, ◌<◌, ◌≤◌, ◌^◌, false, true, [], ◌∷◌, ◌++◌, None, IfOk};
 ghost use Rattle.std.specs.Prelude.{OnErr, OnOk};
 ghost use Rattle.vm_base.specs.Info.{info_file_page, is_leaf};
 ghost use Rattle.live_levels.specs.Replay.{replay, dated};
@@ -16,7 +16,8 @@ use vm_base::{CoreId, PageInfo};
 /// A slot of neighbouring pages: its place, the core that is to lock it first, what its pages have,
 /// and the changes that led to it, each under its ticket. The first change stands apart, so that it
 /// takes no memory. Whenever a thread locks the slot, what its first page has is the replay of its
-/// changes; a page with a frame or a recorded core is a slot of its own.
+/// changes; a page with a frame or a recorded core is a slot of its own. It says itself, under its
+/// lock, whether it was divided: who has waited for it asks that, since others have its pages then.
 #[derive(Drop)]
 pub struct SlotState<A: Allocator> {
     first: u64,
@@ -25,6 +26,7 @@ pub struct SlotState<A: Allocator> {
     content: Option<PageInfo>,
     begun: Option<SlotChange>,
     later: Vec<SlotChange, A>,
+    divided: bool,
 }
 
 impl<A: Allocator> Model for SlotState<A> {
@@ -35,10 +37,10 @@ impl<A: Allocator> Model for SlotState<A> {
     ghost Value = { SlotView };
 
     ghost view = { λ s. slot_view s.first s.count s.owner s.content (history s.begun s.later.items)
-        (vec_capacity s.later - vec_len s.later) };
+        (vec_capacity s.later - vec_len s.later) s.divided };
 
     ghost invariant = { λ s. IsSlotView (slot_view s.first s.count s.owner s.content
-        (history s.begun s.later.items) (vec_capacity s.later - vec_len s.later)) };
+        (history s.begun s.later.items) (vec_capacity s.later - vec_len s.later) s.divided) };
 }
 
 impl<A: Allocator> SlotState<A> {
@@ -48,6 +50,7 @@ impl<A: Allocator> SlotState<A> {
         requires place { first + count ≤ 2 ^ 36 }
         ensures place { (result.first ≡ first) × (result.count ≡ count) × (result.owner ≡ None) }
         ensures unmapped { (result.content ≡ None) × (result.changes ≡ []) }
+        ensures whole { result.divided ≡ false }
     {
         SlotState {
             first,
@@ -56,6 +59,7 @@ impl<A: Allocator> SlotState<A> {
             content: None,
             begun: None,
             later: Vec::new(alloc),
+            divided: false,
         }
     }
 
@@ -87,6 +91,20 @@ impl<A: Allocator> SlotState<A> {
         ensures { self.new ≡ record self.old { owner = owner } }
     {
         self.owner = owner;
+    }
+
+    /// Tells whether the slot was divided, so that others have its pages.
+    pub fn is_divided(&self) -> bool
+        ensures { result ≡ self.now.divided }
+    {
+        self.divided
+    }
+
+    // The slot is divided from now on, until it stands for its parts.
+    pub(crate) fn set_divided(&mut self)
+        ensures { self.new ≡ record self.old { divided = true } }
+    {
+        self.divided = true;
     }
 
     /// What the slot's first page has: the replay of its changes.
@@ -137,17 +155,20 @@ impl<A: Allocator> SlotState<A> {
         self.later.push_reserved(SlotChange { ticket, act });
     }
 
-    /// The slot begins anew, with one change and this owner. It takes no memory, and keeps its place.
+    /// The slot begins anew, with one change and this owner, and isn't divided. It takes no memory,
+    /// and keeps its place.
     pub fn restart(&mut self, ticket: u64, act: Act, owner: Option<CoreId>)
         requires suits { Suits act self.old.count }
         ensures place { (self.new.first ≡ self.old.first) × (self.new.count ≡ self.old.count)
             × (self.new.owner ≡ owner) }
         ensures begun { self.new.changes ≡ dated ticket act ∷ [] }
         ensures content { self.new.content ≡ replay self.new.changes }
+        ensures whole { self.new.divided ≡ false }
     {
         self.owner = owner;
         self.content = after(None, &act);
         self.begun = Some(SlotChange { ticket, act });
         self.later.clear();
+        self.divided = false;
     }
 }

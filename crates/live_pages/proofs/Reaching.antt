@@ -1,5 +1,6 @@
 -- A frame that an access reached is reached from then on
-use Rattle.std.proofs.Common.{◌≡◌, ◌⊎◌, inl, inr, ℕ, ◌++◌, [], ◌∷◌, List, Bool, true, false, Option, Some, None, drop, length, ◌==◌, if◌then◌else◌, refl, ap, sym, ◌∙◌, subst, arith}
+use Rattle.std.proofs.Common.{◌≡◌, ◌⊎◌, inl, inr, ℕ, ◌++◌, [], ◌∷◌, List, Bool, true, false, Option, Some, None, drop, length, ◌==◌, if◌then◌else◌}
+use Rattle.std.proofs.Common.{refl, ap, sym, ◌∙◌, subst, arith}
 use Rattle.std.proofs.lemmas.Bool.Decides.{nat_tests}
 use Rattle.vm_base.specs.declared.rights.Access.{Access}
 use Rattle.mmu.specs.declared.entry.Translation.{Translation}
@@ -19,7 +20,8 @@ last_at [] p t absent =
 last_at (e ∷ es) p t absent = go (e.page == p) refl (λ left. last_at es p t left)
   where
     go : (b : Bool) → (e.page == p) ≡ b
-        → (tlb_at es p ≡ None → tlb_at (es ++ record { page = p; translation = t } ∷ []) p ≡ Some t) → tlb_at (e ∷ es ++ record { page = p; translation = t } ∷ []) p ≡ Some t
+        → (tlb_at es p ≡ None → tlb_at (es ++ record { page = p; translation = t } ∷ []) p ≡ Some t)
+        → tlb_at (e ∷ es ++ record { page = p; translation = t } ∷ []) p ≡ Some t
     go true is more = absurd (let some : Some e.translation ≡ None = sym (ap (λ (b : Bool). if b then Some e.translation else tlb_at es p) is) ∙ absent in cc)
     go false is more =
         let left : tlb_at es p ≡ None = sym (ap (λ (b : Bool). if b then Some e.translation else tlb_at es p) is) ∙ absent in
@@ -41,7 +43,8 @@ reached_again (Some t) entry es p f access is reached = go (permits t access) re
     go : (b : Bool) → permits t access ≡ b
         → frame_reached (translated (tlb_at (tlb_after (hit t access) p entry es) p) entry access) ≡ Some f
     go true may =
-        let stays : tlb_at (tlb_after (hit t access) p entry es) p ≡ Some t = ap (λ (b : Bool). tlb_at (tlb_after (if b then Hit t.frame else Fault) p entry es) p) may ∙ is in
+        let stays : tlb_at (tlb_after (hit t access) p entry es) p ≡ Some t = ap (λ (b : Bool). tlb_at (tlb_after
+        (if b then Hit t.frame else Fault) p entry es) p) may ∙ is in
         ap (λ c. frame_reached (translated c entry access)) stays ∙ reached
     go false may = absurd (let none : None ≡ Some f = sym (ap (λ (b : Bool). frame_reached (if b then Hit t.frame else Fault)) may) ∙ reached in cc)
 reached_again None None es p f access is reached = absurd (let none : None ≡ Some f = reached in cc)
@@ -53,7 +56,8 @@ reached_again None (Some t) es p f access is reached = go (permits t access) ref
         let now : tlb_at (tlb_after (fill (Some t) access) p (Some t) es) p ≡ Some t =
         ap (λ (b : Bool). tlb_at (tlb_after (if b then Fill t.frame else Fault) p (Some t) es) p) may ∙ filled_at es p t is in
         let same : frame_reached (hit t access) ≡ frame_reached (fill (Some t) access) =
-        ap (λ (b : Bool). frame_reached (if b then Hit t.frame else Fault)) may ∙ sym (ap (λ (b : Bool). frame_reached (if b then Fill t.frame else Fault)) may) in
+        ap (λ (b : Bool). frame_reached (if b then Hit t.frame else Fault)) may ∙ sym (ap (λ (b : Bool). frame_reached
+        (if b then Fill t.frame else Fault)) may) in
         ap (λ c. frame_reached (translated c (Some t) access)) now ∙ (same ∙ reached)
     go false may = absurd (let none : None ≡ Some f = sym (ap (λ (b : Bool). frame_reached (if b then Fill t.frame else Fault)) may) ∙ reached in cc)
 

@@ -8,6 +8,7 @@ ghost use Rattle.seats.specs.Notes.{CanNote};
 ghost use Rattle.machine_model.specs.Files.{back_of};
 ghost use Rattle.live_tree.specs.Held.{CanTake};
 ghost use Rattle.live_tree.specs.Shown.{shown};
+ghost use Rattle.live_pages.specs.Cached.{BacksPage};
 ghost use Rattle.live_pages.specs.Counts.{Begins, BeginsFrom};
 ghost use Rattle.live_pages.specs.Frames.{IsFilePage, MayGet};
 ghost use Rattle.live_pages.specs.Free.{Gives, GivesFree, free_in};
@@ -15,11 +16,11 @@ ghost use Rattle.live_pages.specs.HeldFrames.{CanMakeWay, Copies, CountsShown, G
 ghost use Rattle.live_pages.specs.Steps.{Stays, StepsWith};
 
 use crate::beginning::{begin_page, begin_zeros};
-use crate::frames_held::{FramesHeld, Place, lock_frame, lock_these};
+use crate::frames_held::{FramesHeld, Place, lock_place, lock_these};
 use crate::free_frames::FreeFrames;
-use crate::pieces::{CoreState, Pieces, lock_core, number_of};
-use crate::settling::place_of;
-use frames::{CachedFrame, Objects};
+use crate::pieces::{CoreState, FilePage, Pieces, lock_core, number_of};
+use crate::settling::lock_file_page;
+use frames::Objects;
 use live_levels::act::Act;
 use live_levels::level::Stepper;
 use live_tree::held::Held;
@@ -77,7 +78,7 @@ fn fill_zeros<R: Wait, A: Allocator + Clone>(
     let Some(number) = own else {
         return None;
     };
-    let Some(mut place) = lock_frame(rt, pieces.frames, number) else {
+    let Some(mut place) = lock_place(rt, pieces.frames, number) else {
         return None;
     };
     let number = place.number;
@@ -96,6 +97,7 @@ fn give_zeros<A: Allocator + Clone>(
     held: &mut Held<'_, A>,
 )
     requires step { CanNote seat.old }
+    requires locked { (state_in place.old).number ≡ place.old.number }
     requires each { All (CanTake (Frame place.old.number)) held.old.slots }
     ensures step { StepsWith (Frame place.old.number) seat.old held.old seat.new held.new }
     ensures number { place.new.number ≡ place.old.number }
@@ -123,13 +125,12 @@ fn show<R: Wait, A: Allocator + Clone>(
     ensures some { IfSome result (λ f. StepsWith (Frame f) seat.old held.old seat.new held.new) }
     ensures none { result ≡ None → Stays seat.old held.old seat.new held.new }
 {
-    let Some(place) = place_of(pieces, Back::Shared { file, page }) else {
+    let Some(mut backing) = lock_file_page(rt, pieces, file, page) else {
         return None;
     };
-    let mut cached = place.lock(rt);
-    match cached.get() {
-        Some(shown) => share(rt, pieces, seat, held, own, &cached, shown),
-        None => cache(rt, pieces, seat, held, own, &mut cached, at, file, page),
+    match backing.cached.get() {
+        Some(shown) => share(rt, pieces, seat, held, own, at, &backing, shown),
+        None => cache(rt, pieces, seat, held, own, at, &mut backing),
     }
 }
 
@@ -150,13 +151,12 @@ fn fill_copy<R: Wait, A: Allocator + Clone>(
     ensures own { IfSome result (λ f. own ≡ Some f) }
     ensures none { result ≡ None → Stays seat.old held.old seat.new held.new }
 {
-    let Some(place) = place_of(pieces, Back::Private { file, page }) else {
+    let Some(backing) = lock_file_page(rt, pieces, file, page) else {
         return None;
     };
-    let cached = place.lock(rt);
-    match cached.get() {
-        Some(shown) => copy_shown(rt, pieces, seat, held, own, &cached, shown),
-        None => fill_bytes(rt, pieces, seat, held, own, at, file, page),
+    match backing.cached.get() {
+        Some(shown) => copy_shown(rt, pieces, seat, held, own, at, &backing, shown),
+        None => fill_bytes(rt, pieces, seat, held, own, at, &backing),
     }
 }
 
@@ -169,20 +169,20 @@ fn fill_bytes<R: Wait, A: Allocator + Clone>(
     held: &mut Held<'_, A>,
     own: Option<u32>,
     at: u64,
-    file: u32,
-    page: u64,
+    backing: &FilePage,
 ) -> Option<u32>
     requires step { CanNote seat.old }
-    requires backed { IsFilePage (back_of ((shown held.old.slots).info at)) file page }
+    requires backed { BacksPage held.old at backing.now }
+    requires uncached { backing.now.cached ≡ None }
     ensures some { IfSome result (λ f. StepsWith (Frame f) seat.old held.old seat.new held.new) }
     ensures own { IfSome result (λ f. own ≡ Some f) }
     ensures none { result ≡ None → Stays seat.old held.old seat.new held.new }
 {
-    let Some(mut place) = lock_own(rt, pieces, held, own, file, page) else {
+    let Some(mut place) = lock_own(rt, pieces, held, own, backing) else {
         return None;
     };
     let number = place.number;
-    give_bytes(&mut place, pieces.objects, seat, held, at, file, page);
+    give_bytes(&mut place, pieces.objects, seat, held, at, backing);
     Some(number)
 }
 
@@ -193,33 +193,22 @@ fn cache<R: Wait, A: Allocator + Clone>(
     seat: &mut Seat<A>,
     held: &mut Held<'_, A>,
     own: Option<u32>,
-    cached: &mut CachedFrame,
     at: u64,
-    file: u32,
-    page: u64,
+    backing: &mut FilePage,
 ) -> Option<u32>
     requires step { CanNote seat.old }
-    requires backed { IsFilePage (back_of ((shown held.old.slots).info at)) file page }
-    requires new { cached.old ≡ None }
+    requires backed { BacksPage held.old at backing.old }
+    requires uncached { backing.old.cached ≡ None }
     ensures some { IfSome result (λ f. StepsWith (Frame f) seat.old held.old seat.new held.new) }
     ensures own { IfSome result (λ f. own ≡ Some f) }
-    ensures cached { cached.new ≡ result }
+    ensures cached { backing.new ≡ record backing.old { cached = result } }
     ensures none { result ≡ None → Stays seat.old held.old seat.new held.new }
 {
-    let Some(mut place) = lock_own(rt, pieces, held, own, file, page) else {
+    let Some(mut place) = lock_own(rt, pieces, held, own, backing) else {
         return None;
     };
     let number = place.number;
-    give_cached(
-        &mut place,
-        cached,
-        pieces.objects,
-        seat,
-        held,
-        at,
-        file,
-        page,
-    );
+    give_cached(&mut place, backing, pieces.objects, seat, held, at);
     Some(number)
 }
 
@@ -230,21 +219,21 @@ fn lock_own<'a, R: Wait, A: Allocator + Clone>(
     pieces: &Pieces<'a, A>,
     held: &Held<'_, A>,
     own: Option<u32>,
-    file: u32,
-    page: u64,
+    backing: &FilePage,
 ) -> Option<Place<'a, A>>
     ensures own { IfSome result (λ p. own ≡ Some p.number) }
+    ensures locked { IfSome result (λ p. (state_in p).number ≡ p.number) }
     ensures each { IfSome result (λ p. All (CanTake (Frame p.number)) held.now.slots) }
     ensures page { IfSome result
-        (λ p. is_some (file_bytes (files_of pieces.now.objects.now file) page) ≡ true) }
+        (λ p. is_some (file_bytes (files_of pieces.now.objects.now backing.now.file) backing.now.page) ≡ true) }
 {
     let Some(number) = own else {
         return None;
     };
-    if pieces.objects.is_past_end(file, page) {
+    if pieces.objects.is_past_end(backing.file, backing.page) {
         return None;
     }
-    let Some(place) = lock_frame(rt, pieces.frames, number) else {
+    let Some(place) = lock_place(rt, pieces.frames, number) else {
         return None;
     };
     if !held.can_take(Act::Frame(place.number)) {
@@ -261,46 +250,48 @@ fn give_bytes<A: Allocator + Clone>(
     seat: &mut Seat<A>,
     held: &mut Held<'_, A>,
     _at: u64,
-    file: u32,
-    page: u64,
+    backing: &FilePage,
 )
     requires step { CanNote seat.old }
-    requires backed { IsFilePage (back_of ((shown held.old.slots).info _at)) file page }
+    requires locked { (state_in place.old).number ≡ place.old.number }
+    requires backed { BacksPage held.old _at backing.now }
+    requires uncached { backing.now.cached ≡ None }
     requires each { All (CanTake (Frame place.old.number)) held.old.slots }
-    requires page { is_some (file_bytes (files_of objects.now file) page) ≡ true }
+    requires page { is_some (file_bytes (files_of objects.now backing.now.file) backing.now.page) ≡ true }
     ensures step { StepsWith (Frame place.old.number) seat.old held.old seat.new held.new }
     ensures number { place.new.number ≡ place.old.number }
-    ensures frame { BeginsFrom (files_of objects.now) file page 1 (state_in place.old) (state_in place.new) }
+    ensures frame { BeginsFrom (files_of objects.now) backing.now.file backing.now.page 1
+        (state_in place.old) (state_in place.new) }
 {
     let ticket = seat.step();
-    begin_page(&mut place.frame, objects, file, page, 1);
+    begin_page(&mut place.frame, objects, backing.file, backing.page, 1);
     held.change_each(ticket, Act::Frame(place.number));
 }
 
 // The same with a frame that caches the file page from then on, and so is counted twice.
 fn give_cached<A: Allocator + Clone>(
     place: &mut Place<'_, A>,
-    cached: &mut CachedFrame,
+    backing: &mut FilePage,
     objects: &Objects<A>,
     seat: &mut Seat<A>,
     held: &mut Held<'_, A>,
     _at: u64,
-    file: u32,
-    page: u64,
 )
     requires step { CanNote seat.old }
-    requires backed { IsFilePage (back_of ((shown held.old.slots).info _at)) file page }
+    requires locked { (state_in place.old).number ≡ place.old.number }
+    requires backed { BacksPage held.old _at backing.old }
+    requires uncached { backing.old.cached ≡ None }
     requires each { All (CanTake (Frame place.old.number)) held.old.slots }
-    requires page { is_some (file_bytes (files_of objects.now file) page) ≡ true }
-    requires new { cached.old ≡ None }
+    requires page { is_some (file_bytes (files_of objects.now backing.old.file) backing.old.page) ≡ true }
     ensures step { StepsWith (Frame place.old.number) seat.old held.old seat.new held.new }
     ensures number { place.new.number ≡ place.old.number }
-    ensures frame { BeginsFrom (files_of objects.now) file page 2 (state_in place.old) (state_in place.new) }
-    ensures cached { cached.new ≡ Some place.old.number }
+    ensures frame { BeginsFrom (files_of objects.now) backing.old.file backing.old.page 2
+        (state_in place.old) (state_in place.new) }
+    ensures cached { backing.new ≡ record backing.old { cached = Some place.old.number } }
 {
     let ticket = seat.step();
-    begin_page(&mut place.frame, objects, file, page, 2);
-    cached.set(place.number);
+    begin_page(&mut place.frame, objects, backing.file, backing.page, 2);
+    backing.cached.set(place.number);
     held.change_each(ticket, Act::Frame(place.number));
 }
 
@@ -312,11 +303,13 @@ fn copy_shown<R: Wait, A: Allocator + Clone>(
     seat: &mut Seat<A>,
     held: &mut Held<'_, A>,
     own: Option<u32>,
-    cached: &CachedFrame,
+    at: u64,
+    backing: &FilePage,
     shown: u32,
 ) -> Option<u32>
     requires step { CanNote seat.old }
-    requires caches { cached.now ≡ Some shown }
+    requires backed { BacksPage held.old at backing.now }
+    requires caches { backing.now.cached ≡ Some shown }
     ensures some { IfSome result (λ f. StepsWith (Frame f) seat.old held.old seat.new held.new) }
     ensures own { IfSome result (λ f. own ≡ Some f) }
     ensures none { result ≡ None → Stays seat.old held.old seat.new held.new }
@@ -330,7 +323,7 @@ fn copy_shown<R: Wait, A: Allocator + Clone>(
     let Some(mut frames) = lock_these(rt, pieces, &[Some(number), Some(shown)]) else {
         return None;
     };
-    give_copy(&mut frames, seat, held, cached, shown, number);
+    give_copy(&mut frames, seat, held, at, backing, shown, number);
     Some(number)
 }
 
@@ -340,7 +333,8 @@ fn give_copy<A: Allocator + Clone>(
     frames: &mut FramesHeld<'_, A>,
     seat: &mut Seat<A>,
     held: &mut Held<'_, A>,
-    _cached: &CachedFrame,
+    _at: u64,
+    _backing: &FilePage,
     from: u32,
     to: u32,
 )
@@ -349,7 +343,8 @@ fn give_copy<A: Allocator + Clone>(
     requires source { IsHeld from frames.old }
     requires target { IsHeld to frames.old }
     requires other { from ≢ to }
-    requires caches { _cached.now ≡ Some from }
+    requires backed { BacksPage held.old _at _backing.now }
+    requires caches { _backing.now.cached ≡ Some from }
     ensures step { StepsWith (Frame to) seat.old held.old seat.new held.new }
     ensures frames { Copies from to frames.old frames.new }
 {
@@ -366,13 +361,15 @@ fn share<R: Wait, A: Allocator + Clone>(
     seat: &mut Seat<A>,
     held: &mut Held<'_, A>,
     own: Option<u32>,
-    cached: &CachedFrame,
+    at: u64,
+    backing: &FilePage,
     shown: u32,
 ) -> Option<u32>
     requires step { CanNote seat.old }
-    requires caches { cached.now ≡ Some shown }
+    requires backed { BacksPage held.old at backing.now }
+    requires caches { backing.now.cached ≡ Some shown }
     ensures some { IfSome result (λ f. StepsWith (Frame f) seat.old held.old seat.new held.new) }
-    ensures shown { IfSome result (λ f. cached.now ≡ Some f) }
+    ensures shown { IfSome result (λ f. backing.now.cached ≡ Some f) }
     ensures none { result ≡ None → Stays seat.old held.old seat.new held.new }
 {
     let Some(mut core) = lock_core(rt, pieces.cores, seat.core()) else {
@@ -380,7 +377,7 @@ fn share<R: Wait, A: Allocator + Clone>(
     };
     let mut free = pieces.free_for(rt, own);
     share_by(
-        rt, pieces, seat, held, own, cached, shown, &mut core, &mut free,
+        rt, pieces, seat, held, own, at, backing, shown, &mut core, &mut free,
     )
 }
 
@@ -391,17 +388,19 @@ fn share_by<R: Wait, A: Allocator + Clone>(
     seat: &mut Seat<A>,
     held: &mut Held<'_, A>,
     own: Option<u32>,
-    cached: &CachedFrame,
+    at: u64,
+    backing: &FilePage,
     shown: u32,
     core: &mut CoreState<A>,
     free: &mut Option<MutexGuard<'_, FreeFrames<A>>>,
 ) -> Option<u32>
     requires step { CanNote seat.old }
-    requires caches { cached.now ≡ Some shown }
+    requires backed { BacksPage held.old at backing.now }
+    requires caches { backing.now.cached ≡ Some shown }
     requires core { core.old.inbox.core ≡ seat.old.core }
     requires free { is_some free.old ≡ is_some own }
     ensures some { IfSome result (λ f. StepsWith (Frame f) seat.old held.old seat.new held.new) }
-    ensures shown { IfSome result (λ f. cached.now ≡ Some f) }
+    ensures shown { IfSome result (λ f. backing.now.cached ≡ Some f) }
     ensures none { result ≡ None → Stays seat.old held.old seat.new held.new }
 {
     let evicted = core.counts.in_the_way(shown, 1);
@@ -419,7 +418,8 @@ fn share_by<R: Wait, A: Allocator + Clone>(
         seat,
         held,
         own,
-        cached,
+        at,
+        backing,
         shown,
         number_of(&epochs),
     );
@@ -435,7 +435,8 @@ fn give_shown<A: Allocator + Clone>(
     seat: &mut Seat<A>,
     held: &mut Held<'_, A>,
     own: Option<u32>,
-    _cached: &CachedFrame,
+    _at: u64,
+    _backing: &FilePage,
     shown: u32,
     epoch: u64,
 )
@@ -444,7 +445,8 @@ fn give_shown<A: Allocator + Clone>(
     requires way { CanMakeWay shown (pos 1) core.old.counts frames.old }
     requires own { IfSome own (λ number. IsHeld number frames.old) }
     requires free { is_some free.old ≡ is_some own }
-    requires caches { _cached.now ≡ Some shown }
+    requires backed { BacksPage held.old _at _backing.now }
+    requires caches { _backing.now.cached ≡ Some shown }
     requires core { core.old.inbox.core ≡ seat.old.core }
     ensures step { StepsWith (Frame shown) seat.old held.old seat.new held.new }
     ensures counts { CountsShown own shown epoch core.old.counts core.new.counts frames.old frames.new }

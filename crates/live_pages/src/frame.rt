@@ -7,9 +7,9 @@ ghost use Rattle.live_pages.specs.Free.{Gives, GivesFree, TakesNext, TakesOne, f
 ghost use Rattle.live_pages.specs.HeldFrames.{IsGiven, frame_at};
 ghost use Rattle.live_pages.specs.Steps.{Takes, Wants};
 
-use crate::frames_held::{Place, lock_frame};
+use crate::frames_held::{Place, lock_place};
 use crate::free_frames::FreeFrames;
-use crate::pieces::{FrameState, Pieces};
+use crate::pieces::{FrameState, Pieces, lock_frame};
 use live_levels::level::Stepper;
 use machine_model::{Event, Outcome};
 use refcache::Review;
@@ -104,10 +104,9 @@ fn take_at<R: Wait, A: Allocator + Clone>(
     ensures one { result ≡ true → TakesOne number free.old free.new }
     ensures none { result ≡ false → free.new ≡ free.old }
 {
-    let Some(place) = frames.get(number as usize) else {
+    let Some(mut frame) = lock_frame(rt, frames, number) else {
         return false;
     };
-    let mut frame = place.lock(rt);
     take_free(&mut frame, free, seat, number)
 }
 
@@ -120,6 +119,7 @@ fn take_free<A: Allocator>(
 ) -> bool
     requires step { CanNote seat.old }
     requires number { number + 1 < 2 ^ 32 }
+    requires own { frame.old.number ≡ number }
     requires free { free_frames free.old number ≡ true }
     ensures result { result ≡ frame.old.cell.is_free }
     ensures taken { result ≡ true → Takes seat.old number seat.new }
@@ -154,7 +154,7 @@ pub fn give_up_with<R: Wait, A: Allocator + Clone>(
     ensures { GivesUp seat.old seat.new }
 {
     let mut free = pieces.free.lock(rt);
-    match lock_frame(rt, pieces.frames, own) {
+    match lock_place(rt, pieces.frames, own) {
         Some(mut place) => give_up_in(&mut place, &mut free, seat),
         None => {
             let _ticket = seat.note(Event::GiveUp(seat.core()), Outcome::Stepped);

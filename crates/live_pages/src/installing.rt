@@ -1,5 +1,5 @@
 //! The step that enters a page in a core's tables, and records the core on it.
-ghost use Rattle.std.specs.Prelude.{◌≡◌, ℕ, Option, Some, All, true, false, is_some};
+ghost use Rattle.std.specs.Prelude.{◌≡◌, ℕ, Option, Some, All, true, false};
 ghost use Rattle.vm_base.specs.Functions.{put};
 ghost use Rattle.vm_base.specs.Pages.{is_page};
 ghost use Rattle.slot_lock.specs.Plan.{IsSoundTouch};
@@ -8,12 +8,11 @@ ghost use Rattle.live_tree.specs.Held.{CanTake};
 ghost use Rattle.machine_model.specs.Files.{file_frame};
 ghost use Rattle.machine_model.specs.Translating.{entry_of_page};
 ghost use Rattle.seats.specs.Notes.{CanNote};
-ghost use Rattle.live_pages.specs.Cached.{cached_in, place_in};
+ghost use Rattle.live_pages.specs.Cached.{LocksPageOf, cached_in};
 ghost use Rattle.live_pages.specs.Steps.{Stays, StepsWith};
 
-use crate::pieces::{CoreState, Pieces, lock_core};
+use crate::pieces::{CoreState, FilePage, Pieces, lock_core};
 use crate::settling::{frame_in, lock_cached};
-use frames::CachedFrame;
 use live_levels::act::Act;
 use live_levels::level::Stepper;
 use live_tree::held::Held;
@@ -43,7 +42,9 @@ pub fn install<R: Wait, A: Allocator + Clone>(
     let Some(info) = held.page(touch.page) else {
         return false;
     };
-    let cached = lock_cached(rt, pieces, info.meta.back);
+    let Some(cached) = lock_cached(rt, pieces, info.meta.back) else {
+        return false;
+    };
     install_with(rt, pieces, &cached, seat, held, touch, &info)
 }
 
@@ -51,7 +52,7 @@ pub fn install<R: Wait, A: Allocator + Clone>(
 fn install_with<R: Wait, A: Allocator + Clone>(
     rt: &R,
     pieces: &Pieces<'_, A>,
-    cached: &Option<MutexGuard<'_, CachedFrame>>,
+    cached: &Option<MutexGuard<'_, FilePage>>,
     seat: &mut Seat<A>,
     held: &mut Held<'_, A>,
     touch: Touch,
@@ -59,7 +60,7 @@ fn install_with<R: Wait, A: Allocator + Clone>(
 ) -> bool
     requires step { CanNote seat.old }
     requires touch { IsSoundTouch touch }
-    requires lock { is_some cached.now ≡ is_some (place_in pieces.now.pages.now info.now.meta.back) }
+    requires lock { LocksPageOf pieces.now.pages.now info.now.meta.back cached.now }
     ensures done { result ≡ true → StepsWith (Record seat.old.core) seat.old held.old seat.new held.new }
     ensures not { result ≡ false → Stays seat.old held.old seat.new held.new }
 {
@@ -78,7 +79,7 @@ fn install_with<R: Wait, A: Allocator + Clone>(
 // was no memory for the entry.
 fn enter<A: Allocator + Clone>(
     core: &mut CoreState<A>,
-    cached: &Option<MutexGuard<'_, CachedFrame>>,
+    cached: &Option<MutexGuard<'_, FilePage>>,
     seat: &mut Seat<A>,
     held: &mut Held<'_, A>,
     page: u64,

@@ -1,5 +1,5 @@
 //! What lies under the locks of a space, and how it is lent to a step.
-ghost use Rattle.std.specs.Prelude.{◌≡◌, is_some, IfSome};
+ghost use Rattle.std.specs.Prelude.{◌≡◌, ◌<◌, length, is_some, IfSome};
 ghost use Rattle.std.specs.Sync.Mutex.{mutex_guard_value};
 ghost use Rattle.live_pages.specs.Frames.{epoch_of};
 
@@ -20,11 +20,20 @@ pub struct CoreState<A: Allocator + Clone> {
     pub cpu: Cpu<A>,
 }
 
-/// What a frame has: its bytes, whether it is free, and its count.
+/// What a frame has: its number, its bytes, whether it is free, and its count.
 #[derive(Drop)]
 pub struct FrameState<A: Allocator> {
+    pub number: u32,
     pub cell: FrameCell<A>,
     pub count: ObjectCount,
+}
+
+/// What a file page has: of which file it is, which of its pages, and the frame that caches it.
+#[derive(Drop)]
+pub struct FilePage {
+    pub file: u32,
+    pub page: u64,
+    pub cached: CachedFrame,
 }
 
 /// The pieces of a space, as they are lent to a step.
@@ -34,8 +43,8 @@ pub struct Pieces<'a, A: Allocator + Clone> {
     pub alloc: &'a A,
     /// The files, which never change.
     pub objects: &'a Objects<A>,
-    /// Of each file the frames that cache its pages.
-    pub pages: &'a [Vec<Mutex<CachedFrame>, A>],
+    /// Of each file its pages.
+    pub pages: &'a [Vec<Mutex<FilePage>, A>],
     /// The cores.
     pub cores: &'a [CachePadded<Mutex<CoreState<A>>>],
     /// Which frames are free.
@@ -90,6 +99,26 @@ pub fn lock_core<'a, R: Wait, A: Allocator + Clone>(
         return None;
     }
     Some(state)
+}
+
+/// Locks the frame of that number, which says it itself. It waits while another thread has it locked.
+/// None where there is no such frame, or another one stands in its place, which never comes.
+pub fn lock_frame<'a, R: Wait, A: Allocator>(
+    rt: &R,
+    frames: &'a [Mutex<FrameState<A>>],
+    number: u32,
+) -> Option<MutexGuard<'a, FrameState<A>>>
+    ensures own { IfSome result (λ guard. (mutex_guard_value guard).number ≡ number) }
+    ensures there { IfSome result (λ _. number < length frames.now) }
+{
+    let Some(place) = frames.get(number as usize) else {
+        return None;
+    };
+    let frame = place.lock(rt);
+    if frame.number != number {
+        return None;
+    }
+    Some(frame)
 }
 
 /// The number of an epoch that is locked; 0 where none is.

@@ -13,7 +13,7 @@ ghost use Rattle.live_pages.specs.Reaching.{Reaches};
 ghost use Rattle.live_pages.specs.Steps.{StepsAndAnswers, Tries};
 
 use crate::answering::answer;
-use crate::frames_held::{Place, lock_frame};
+use crate::frames_held::{Place, lock_place};
 use crate::pieces::{CoreState, FrameState, Pieces, lock_core};
 use frames::FrameCell;
 use live_levels::level::Stepper;
@@ -95,7 +95,7 @@ fn touch_frame<R: Wait, A: Allocator + Clone>(
         (⟦<Cpu<A> as Hardware>⟧.tlb core.now.cpu) touch number }
     ensures { Tries touch seat.old seat.new result }
 {
-    match lock_frame(rt, pieces.frames, number) {
+    match lock_place(rt, pieces.frames, number) {
         Some(mut place) => Tried::Served(serve(&mut place, seat, core, touch)),
         None => Tried::Lost,
     }

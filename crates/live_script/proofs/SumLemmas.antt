@@ -13,8 +13,8 @@ use Rattle.seats.specs.declared.noted.Noted.{Noted}
 use Rattle.live_script.specs.declared.sums.Requests.{Requests}
 use Rattle.live_script.specs.declared.sums.Segvs.{Segvs}
 use Rattle.live_script.specs.declared.sums.Sums.{Sums}
-use Rattle.live_script.specs.Sums.{answered, answers, asked, asks, count, is_take, one_if}
-use Rattle.live_script.specs.Sums.{requests_in, replies_in, segvs_in, requests_after, replies_after, segvs_after, sums_of, with_note}
+use Rattle.live_script.specs.Sums.{answered, answers, asked, asks, count, is_take, limited, one_if}
+use Rattle.live_script.specs.Sums.{requests_in, replies_in, segvs_in, requests_after, replies_after, segvs_after, sums_of}
 use Rattle.live_script.specs.Sums.{is_mmap, is_munmap, is_mprotect, is_load, is_store, is_fetch}
 use Rattle.live_script.specs.Sums.{is_mapped, is_done, is_byte, is_refused, is_segv, is_maperr, is_accerr, is_bus, is_no_frame, is_no_memory}
 
@@ -103,7 +103,20 @@ segvs_more ns n = go n.outcome refl where
   go e at = let more = more_of e at in
       same_segvs _ _ (more is_maperr) (more is_accerr)
 
-pub sums_more : (ns : List Noted) (n : Noted) → with_note (sums_of ns) n ≡ sums_of (ns ++ n ∷ [])
+abbrev with_note : Sums → Noted → Sums
+with_note s n = record {
+  requests = requests_after s.requests n.event;
+  replies = replies_after s.replies n.outcome;
+  segvs = segvs_after s.segvs n.outcome;
+  takes = one_if (is_take n.event) s.takes;
+  notes = limited (s.notes + 1);
+}
+
+sums_more : (ns : List Noted) (n : Noted) → with_note (sums_of ns) n ≡ sums_of (ns ++ n ∷ [])
 sums_more ns n =
     same_sums _ _ (requests_more ns n) (replies_more ns n) (segvs_more ns n) (count_more (λ m. is_take m.event) ns n)
     (let size = length-append ns (n ∷ []) in omega (arith, size))
+
+-- the numbers of these notes become those of one more
+pub counted : (ns : List Noted) (n : Noted) (s t : Sums) → s ≡ sums_of ns → t ≡ with_note s n → t ≡ sums_of (ns ++ n ∷ [])
+counted ns n s t is more = more ∙ (ap (λ x. with_note x n) is ∙ sums_more ns n)

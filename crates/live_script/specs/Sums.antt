@@ -193,13 +193,3 @@ replies_after r outcome = r
 abbrev pub segvs_after : Segvs → Outcome → Segvs
 segvs_after s (Answered reply) = with_segv s reply
 segvs_after s outcome = s
-
--- the numbers with one note more
-abbrev pub with_note : Sums → Noted → Sums
-with_note s n = record {
-  requests = requests_after s.requests n.event;
-  replies = replies_after s.replies n.outcome;
-  segvs = segvs_after s.segvs n.outcome;
-  takes = one_if (is_take n.event) s.takes;
-  notes = limited (s.notes + 1);
-}

@@ -5,11 +5,13 @@ use Rattle.std.specs.List.{AllByRecursion}
 use Rattle.vm_base.specs.declared.page.PageRange.{PageRange}
 use Rattle.slot_lock.specs.Slots.{Slots}
 use Rattle.live_levels.specs.declared.close.SlotHistory.{SlotHistory}
-use Rattle.live_tree.specs.Named.{AreOf}
+use Rattle.live_tree.specs.Named.{BearWord}
 use Rattle.live_tree.specs.declared.histories.Histories.{Histories}
 use Rattle.seats.specs.Gathered.{AreWhole}
 use Rattle.seats.specs.Notes.{SeatView}
 use Rattle.seats.specs.declared.noted.Noted.{Noted}
+use Rattle.certifier.specs.declared.result.Certified.{Certified as Done}
+use Rattle.certifier.specs.declared.result.CertifyFault.{CertifyFault}
 use Rattle.certifier.specs.declared.result.CertifyFault.TheVariants as By
 use Rattle.live_space.specs.Space.{LiveView}
 use Rattle.trace_io.specs.Sink.{AppendsFront}
@@ -64,6 +66,13 @@ JudgesRun A parts CanFold Folds asked notes slots (Differs t noted expected) =
     FailsRun A parts CanFold Folds asked notes slots (By.Differs t noted expected)
 JudgesRun A parts CanFold Folds asked notes slots (Slot page) = FailsRun A parts CanFold Folds asked notes slots (By.Slot page)
 
+-- the verdict that tells it; of want of memory none does
+abbrev pub IsVerdictOf : Result Done CertifyFault → NotesVerdict → Type 0
+IsVerdictOf (Ok done) verdict = verdict ≡ Certified done.calls
+IsVerdictOf (Err (By.Differs t noted expected)) verdict = verdict ≡ Differs t noted expected
+IsVerdictOf (Err (By.Slot page)) verdict = verdict ≡ Slot page
+IsVerdictOf (Err fault) verdict = ⊥
+
 -- the script was run, and this is what certifying what its seats noted beside the histories of all pages comes to, those of
 -- the same space
 pub record JudgedRun (A : Type 0) (parts : PageRange → ℕ → ℕ → Bool) (CanFold : Slots → ℕ → Type 0)
@@ -73,7 +82,7 @@ pub record JudgedRun (A : Type 0) (parts : PageRange → ℕ → ℕ → Bool) (
   pub runs : RunsAll script live seats
   pub whole : AreWhole (map (λ s. s.notes) seats)
   pub histories : Histories A
-  pub own : AreOf live.word histories
+  pub own : BearWord live.word histories
   pub judges : JudgesRun A parts CanFold Folds script.asked (notes_in seats) histories.slots.items verdict
 
 -- the same, with the numbers of what its seats noted

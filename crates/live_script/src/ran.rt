@@ -3,7 +3,7 @@ ghost use Rattle.std.specs.Prelude.{◌≡◌, All, IfOk, map};
 ghost use Rattle.seats.specs.Gathered.{AreWhole};
 ghost use Rattle.seats.specs.Fitting.{FitsTypes};
 ghost use Rattle.seats.specs.Packing.{shown};
-ghost use Rattle.live_tree.specs.Named.{AreOf};
+ghost use Rattle.live_tree.specs.Named.{BearWord};
 ghost use Rattle.live_script.specs.Certified.{AreRising};
 ghost use Rattle.live_script.specs.Runs.{RanView};
 
@@ -63,7 +63,7 @@ impl<A: Allocator + Clone> RunSpace<A> {
         ensures are { IfOk result (λ ended. map (λ list. list.notes) ended.notes.items
             ≡ map (λ s. s.notes) self.seats) }
         ensures whole { IfOk result (λ ended. AreWhole (map (λ list. list.notes) ended.notes.items)) }
-        ensures own { IfOk result (λ ended. AreOf self.live.word ended.histories) }
+        ensures word { IfOk result (λ ended. BearWord self.live.word ended.histories) }
     {
         let RunSpace { live, lanes } = self;
         let seats = seats_of(alloc, lanes)?;

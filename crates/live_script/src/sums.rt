@@ -1,9 +1,9 @@
 //! The numbers of what seats noted.
-ghost use Rattle.std.specs.Prelude.{◌≡◌, ◌++◌, [], List, map};
+ghost use Rattle.std.specs.Prelude.{◌≡◌, ◌∷◌, ◌++◌, [], List, map};
 ghost use Rattle.seats.specs.declared.noted.Noted.{Noted as NotedOf};
 ghost use Rattle.seats.specs.Packing.{shown};
 ghost use Rattle.certifier.specs.Order.{all_notes};
-ghost use Rattle.live_script.specs.Sums.{is_take, one_if, replies_after, requests_after, segvs_after, sums_of, with_note, with_reply};
+ghost use Rattle.live_script.specs.Sums.{is_take, one_if, replies_after, requests_after, segvs_after, sums_of, with_reply};
 ghost use Rattle.live_script.specs.Sums.{with_request, with_segv};
 
 use machine_model::{Event, Outcome};
@@ -153,9 +153,9 @@ impl Sums {
         }
     }
 
-    // One note more.
+    // The numbers of these notes become those of one more.
     fn count(&mut self, note: &Noted)
-        ensures { self.new ≡ with_note self.old note.now }
+        ensures { (before : List NotedOf) → self.old ≡ sums_of before → self.new ≡ sums_of (before ++ note.now ∷ []) }
     {
         self.count_event(&note.event);
         self.count_outcome(&note.outcome);

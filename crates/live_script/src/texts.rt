@@ -1,19 +1,20 @@
 //! A script's text that is run, and what is written of it: the notes of its seats, or the result of certifying them.
-ghost use Rattle.std.specs.Prelude.{◌≡◌, ◌⊎◌, Err, IfErr, IfOk, None, OnOk, true};
+ghost use Rattle.std.specs.Prelude.{◌≡◌, ◌⊎◌, Err, IfErr, IfOk, IfSome, None, OnOk, true};
 ghost use Rattle.trace_io.specs.Io.{IsWritten, read_from, written_to};
 ghost use Rattle.trace_io.specs.Source.{Reads};
 ghost use Rattle.trace_words.specs.Declarations.{asked_fault};
 ghost use Rattle.trace_words.specs.Scripts.{ReadsScript, Unread, ReadWhole};
 ghost use Rattle.notes_text.specs.Verdicts.{verdict_text};
+ghost use Rattle.live_script.specs.Certified.{IsNoTicket};
 ghost use Rattle.live_script.specs.Runs.{Fails};
-ghost use Rattle.live_script.specs.Texts.{EndsText, IsSummedText, IsVerdictText, JudgedNotes, TellsText, Yields, fault_of_run};
+ghost use Rattle.live_script.specs.Texts.{EndsText, IsSummedText, IsVerdictOf, IsVerdictText, JudgedNotes, TellsText, Yields, fault_of_run};
 
 use crate::certifying::certify_ran;
 use crate::fault::ScriptFault;
 use crate::ran::lend;
 use crate::runner::Runner;
 use crate::sums::{Sums, sums_of};
-use certifier::CertifyFault;
+use certifier::{Certified, CertifyFault};
 use live_space::fault::LiveFault;
 use notes_text::verdict::{NotesVerdict, write_verdict};
 use notes_text::write_notes;
@@ -154,12 +155,21 @@ fn judge_run<A: Allocator + Clone + Drop, T: Threads + Wait + Sync, R: Runner<A>
         return Err(TextFault::Text(TraceFault::NoMemory));
     };
     let sums = sums_of(notes.as_slice());
-    match certify_ran(alloc, script, notes.as_slice(), &ended.histories) {
-        Ok(done) => Ok(RunVerdict {
-            verdict: NotesVerdict::Certified(done.calls),
-            sums,
-        }),
-        // (the notes of all seats have the tickets below their number, each once)
+    let done = certify_ran(alloc, script, notes.as_slice(), &ended.histories);
+    match verdict_of(done) {
+        Some(verdict) => Ok(RunVerdict { verdict, sums }),
+        None => Err(TextFault::Text(TraceFault::NoMemory)),
+    }
+}
+
+// The verdict to which certifying notes of a run came, which have the tickets below their number, each
+// once. None where memory was wanting.
+fn verdict_of(done: Result<Certified, CertifyFault>) -> Option<NotesVerdict>
+    requires { IfErr done IsNoTicket }
+    ensures { IfSome result (IsVerdictOf done) }
+{
+    match done {
+        Ok(done) => Some(NotesVerdict::Certified(done.calls)),
         Err(CertifyFault::Ticket(_)) => unreachable!(),
         Err(
             CertifyFault::Differs {
@@ -167,22 +177,14 @@ fn judge_run<A: Allocator + Clone + Drop, T: Threads + Wait + Sync, R: Runner<A>
                 noted,
                 expected,
             },
-        ) => Ok(RunVerdict {
-            verdict: NotesVerdict::Differs {
-                ticket,
-                noted,
-                expected,
-            },
-            sums,
+        ) => Some(NotesVerdict::Differs {
+            ticket,
+            noted,
+            expected,
         }),
-        Err(CertifyFault::Slot { page }) => Ok(RunVerdict {
-            verdict: NotesVerdict::Slot(page),
-            sums,
-        }),
+        Err(CertifyFault::Slot { page }) => Some(NotesVerdict::Slot(page)),
         // (the declaration has no fault)
-        Err(CertifyFault::Setup(_)) | Err(CertifyFault::NoMemory) => {
-            Err(TextFault::Text(TraceFault::NoMemory))
-        }
+        Err(CertifyFault::Setup(_)) | Err(CertifyFault::NoMemory) => None,
     }
 }
 

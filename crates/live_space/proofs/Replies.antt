@@ -1,5 +1,6 @@
 -- Replies by plan, and those of requests
-use Rattle.slot_lock.proofs.Words.{◌≡◌, ℕ, ◌+◌, ◌*◌, ◌/◌, ◌%◌, ◌^◌, ◌<◌, ◌≤◌, ◌==◌, ◌||◌, ◌⊎◌, inl, inr, ⊎_elim, not, min, Bool, true, false, Option, Some, None, Result, Ok, Err}
+use Rattle.slot_lock.proofs.Words.{◌≡◌, ℕ, ◌+◌, ◌*◌, ◌/◌, ◌%◌, ◌^◌, ◌<◌, ◌≤◌, ◌==◌, ◌||◌, ◌⊎◌, inl, inr, ⊎_elim, not, min, Bool, true, false, Option}
+use Rattle.slot_lock.proofs.Words.{Some, None, Result, Ok, Err}
 use Rattle.slot_lock.proofs.Words.{refl, sym, ap, subst, ◌∙◌, arith, nat_lt, if◌then◌else◌, nat_tests, Meta, PageRange, Flags, Request, Mmap, Munmap, Mprotect}
 use Rattle.slot_lock.proofs.Words.{Access, Load, Store, Fetch, Mode, Prot, File, ENOMEM, EACCES, Reply, Mapped, Done, Refused, NoMemory}
 use Rattle.slot_lock.proofs.Words.{are_pages, page_of, page_count, pages_of, pages_from, meta_of, IsLeastRoom, is_mapped}

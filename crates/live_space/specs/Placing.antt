@@ -13,7 +13,7 @@ use Rattle.vm_calls.specs.declared.decision.Decision.{Decision}
 use Rattle.vm_calls.specs.declared.decision.Decision.TheVariants.{Refuse, Act, Again}
 use Rattle.vm_calls.specs.Decisions.{DecidesPlace}
 use Rattle.live_tree.specs.Held.{HeldView}
-use Rattle.live_tree.specs.Shown.{shown}
+use Rattle.live_tree.specs.Shown.{KeepsPages, shown}
 use Rattle.seats.specs.Notes.{SeatView}
 use Rattle.live_space.specs.Changing.{Made}
 use Rattle.live_space.specs.InFlight.{HoldsJust}
@@ -28,12 +28,13 @@ IsInside r (Act range shoot) = (r.first ≤ range.first) × (range.end ≤ r.end
 IsInside r (Refuse e) = Unit {0}
 IsInside r Again = Unit {0}
 
--- the pages of the range were mapped so in the held slots, once these crossed no edge of it and had room, and the core
--- looks for the next room behind them
+-- the pages of the range were mapped so in the held slots, once these crossed no edge of it and had room, with all that
+-- their pages had, and the core looks for the next room behind them
 pub record Puts (range : PageRange) (meta : Meta) (h : HeldView) (t : SeatView) (k : HeldView) : Type 0 where
   pub ready : HeldView
   pub first : ready.first ≡ h.first
   pub end : ready.end ≡ h.end
+  pub pages : KeepsPages h ready
   pub noted : SeatView
   pub made : Made (Put range meta) ready noted k
   pub next : t ≡ record noted { next_page = range.end }

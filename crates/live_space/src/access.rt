@@ -114,8 +114,10 @@ impl<'c, R: Wait, G: Gate, A: Allocator + Clone> InCall<'c, '_, '_, '_, R, G, A>
             return Some(Ending::GiveUp);
         }
         let info = self.held.page(touch.page);
-        let settled = settle_page(self.rt, &self.space.pieces(), self.seat, touch, &info);
-        self.act_on(touch, settled)
+        match settle_page(self.rt, &self.space.pieces(), self.seat, touch, &info) {
+            Some(settled) => self.act_on(touch, settled),
+            None => Some(Ending::GiveUp),
+        }
     }
 
     // The access is answered, or the page gets what it wants.

@@ -26,7 +26,7 @@ use live_pages::pieces::lock_core;
 use live_pages::telling::{Acked, Posted, ShootdownTargets, TAKES, count_of, take_all};
 use live_tree::decide_held::{Decided, decide_held};
 use live_tree::held::Held;
-use live_tree::held::losses::{Frames, FramesLost};
+use live_tree::held::losses::{FrameList, FramesLost};
 use machine_model::answers::reply_to;
 use seats::Seat;
 use slot_lock::Change;
@@ -41,7 +41,7 @@ impl<A: Allocator + Clone> Live<A> {
         &'a self,
         rt: &R,
         core: CoreId,
-        lost: Frames<'a, A>,
+        lost: FrameList<'a, A>,
     ) -> Option<Locks<'a, A>>
         ensures lost { IfSome result (λ locks. locks.lost.items ≡ lost.entry.items) }
         ensures own { IfSome result (λ locks. (mutex_guard_value locks.core).inbox.core ≡ core) }
@@ -57,7 +57,7 @@ impl<A: Allocator + Clone> Live<A> {
         &'a self,
         rt: &R,
         core: CoreId,
-        lost: Frames<'a, A>,
+        lost: FrameList<'a, A>,
     ) -> Option<Counting<'a, A>>
         ensures lost { IfSome result (λ counting. counting.lost.items ≡ lost.entry.items) }
         ensures own { IfSome result (λ counting. counting.core ≡ core) }
@@ -141,7 +141,7 @@ impl<'c, R: Wait, G: Gate, A: Allocator + Clone> InCall<'c, '_, '_, '_, R, G, A>
 
     // Makes a change of pages that no other core may have translations of: three steps under the
     // same locks.
-    fn make_alone(&mut self, change: Change, lost: Frames<'c, A>) -> bool
+    fn make_alone(&mut self, change: Change, lost: FrameList<'c, A>) -> bool
         requires ready { IsReady self.old.held change }
         requires alone { AreOthers (shown self.old.held.slots) (range_of change) self.old.seat.now.core 0 }
         requires lost { Loses (shown self.old.held.slots) change lost.items }
@@ -164,7 +164,7 @@ impl<'c, R: Wait, G: Gate, A: Allocator + Clone> InCall<'c, '_, '_, '_, R, G, A>
     // Makes a change of pages that these other cores may have translations of: they are told to drop
     // them, and take what they were told, and then the pages change. It is decided and posted under the
     // same locks, and from then on nothing takes memory.
-    fn make_told(&mut self, change: Change, targets: CoreSet, lost: Frames<'c, A>) -> bool
+    fn make_told(&mut self, change: Change, targets: CoreSet, lost: FrameList<'c, A>) -> bool
         requires ready { IsReady self.old.held change }
         requires others { AreOthers (shown self.old.held.slots) (range_of change) self.old.seat.now.core targets }
         requires lost { Loses (shown self.old.held.slots) change lost.items }

@@ -1,10 +1,10 @@
 //! What only a call that owns the space does: slots of the shared tree are joined, and the space
 //! ends.
 ghost use Rattle.std.specs.Prelude.{◌≡◌, IfOk, IfErr, Option, is_some, map};
-ghost use Rattle.vm_base.specs.declared.page.PageRange.{PageRange as PageRangeOf};
+ghost use Rattle.live_levels.specs.declared.fold.JoinedSlots.{JoinedSlots};
 ghost use Rattle.live_levels.specs.Nexts.{Folds};
 ghost use Rattle.machine_model.specs.declared.event.Event.TheVariants as EventOf;
-ghost use Rattle.live_tree.specs.Named.{AreOf};
+ghost use Rattle.live_tree.specs.Named.{BearWord};
 ghost use Rattle.seats.specs.Gathered.{AreAll, AreWhole};
 ghost use Rattle.seats.specs.Growing.{NotesIf, Steps};
 ghost use Rattle.seats.specs.Notes.{CanNote};
@@ -68,7 +68,7 @@ impl<A: Allocator + Clone> Live<A> {
     /// a slot was in a wrong place, which never comes, the space comes back, with the same word, files
     /// and sizes; its slots were only read.
     pub fn close(mut self) -> Result<Histories<A>, Live<A>>
-        ensures own { IfOk result (AreOf self.word) }
+        ensures word { IfOk result (BearWord self.word) }
         ensures back { IfErr result (λ live. live ≡ self) }
     {
         match self.tree.histories() {
@@ -83,7 +83,7 @@ fn fold<A: Allocator + Clone>(tree: &mut SharedTree<A>, seat: &mut Seat<A>, page
     requires room { CanNote seat.old }
     requires plain { seat.old.plain ≡ EventOf.Fold page }
     ensures noted { NotesIf seat.old (EventOf.Fold page) result seat.new }
-    ensures folds { (pages : Option PageRangeOf) × (result ≡ is_some pages) × Folds Steps seat.old seat.new page pages }
+    ensures folds { (joined : Option JoinedSlots) × (result ≡ is_some joined) × Folds Steps seat.old seat.new page joined }
     ensures word { tree.new.tickets ≡ tree.old.tickets }
 {
     match tree.fold(seat, page) {

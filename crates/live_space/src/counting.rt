@@ -4,7 +4,8 @@ ghost use Rattle.std.specs.Prelude.{◌≡◌, ◌<◌, ◌||◌, ℕ, None, tru
 ghost use Rattle.vm_base.specs.Cores.{members};
 ghost use Rattle.machine_model.specs.declared.event.Event.TheVariants as EventOf;
 ghost use Rattle.refcache.specs.Epochs.{Marks};
-ghost use Rattle.refcache.specs.Pieces.{IsLeast, ReviewsPiece};
+ghost use Rattle.refcache.specs.declared.reports.Queued.{Queued};
+ghost use Rattle.refcache.specs.Pieces.{IsFront, IsLeast, ReviewsPiece};
 ghost use Rattle.refcache.specs.Places.{entries};
 ghost use Rattle.live_pages.specs.Free.{GivesFree, freed_by};
 ghost use Rattle.seats.specs.Growing.{NotesIf};
@@ -17,7 +18,7 @@ use crate::fault::{LiveFault, reserve_notes};
 use crate::space::Live;
 use live_pages::frame::give_reviewed;
 use live_pages::free_frames::FreeFrames;
-use live_pages::pieces::{CoreState, FrameState, lock_core};
+use live_pages::pieces::{CoreState, FrameState, lock_core, lock_frame};
 use machine_model::{Event, Outcome};
 use refcache::{Epochs, Flush, Review};
 use seats::Seat;
@@ -101,10 +102,9 @@ fn flush_entry<R: Wait, A: Allocator + Clone>(
     requires least { IsLeast (entries core.old.counts.places) object }
     ensures { NotesIf seat.old (EventOf.Flush seat.old.core) result seat.new }
 {
-    let Some(frame) = frames.get(object as usize) else {
+    let Some(mut frame) = lock_frame(rt, frames, object) else {
         return false;
     };
-    let mut frame = frame.lock(rt);
     let epochs = epochs.lock(rt);
     evict_least(core, object, &mut frame, &epochs, seat)
 }
@@ -120,6 +120,7 @@ fn evict_least<A: Allocator + Clone>(
 ) -> bool
     requires step { CanNote seat.old }
     requires least { IsLeast (entries core.old.counts.places) object }
+    requires own { frame.old.number ≡ object }
     ensures noted { NotesIf seat.old (EventOf.Flush seat.old.core) result seat.new }
     ensures evicts { result ≡ true → EvictsEntry object epochs.now.number core.old.counts core.new.counts
         frame.old.count frame.new.count }
@@ -193,10 +194,9 @@ fn review_core<R: Wait, A: Allocator + Clone>(
         return false;
     };
     let mut free = free.lock(rt);
-    let Some(frame) = frames.get(front.object as usize) else {
+    let Some(mut frame) = lock_frame(rt, frames, front.object) else {
         return false;
     };
-    let mut frame = frame.lock(rt);
     let epochs = epochs.lock(rt);
     has_reviewed(&review_front(core, &mut free, &mut frame, &epochs, seat))
 }
@@ -209,7 +209,8 @@ fn review_front<A: Allocator + Clone>(
     epochs: &Epochs,
     seat: &mut Seat<A>,
 ) -> Review
-    requires { CanNote seat.old }
+    requires step { CanNote seat.old }
+    requires own { (front : Queued) × IsFront core.old.counts.queue front × (frame.old.number ≡ front.object) }
     ensures noted { NotesIf seat.old (EventOf.Review seat.old.core) (has_reviewed result) seat.new }
     ensures reviews { ReviewsPiece core.old.counts.queue epochs.now.number frame.old.count result frame.new.count
         core.new.counts.queue }

@@ -17,7 +17,7 @@ use crate::space::Live;
 use crossbeam_utils::CachePadded;
 use frames::{CachedFrame, FileSpec, FrameCell, Objects};
 use live_pages::free_frames::FreeFrames;
-use live_pages::pieces::{CoreState, FrameState};
+use live_pages::pieces::{CoreState, FilePage, FrameState};
 use live_tree::tree::SharedTree;
 use machine_model::{Setup, SetupFault};
 use mmu::{Cpu, Hardware, Inbox};
@@ -89,7 +89,7 @@ fn make<A: Allocator + Clone>(
 #[derive(Drop)]
 struct Opened<A: Allocator> {
     objects: Objects<A>,
-    pages: Vec<Vec<Mutex<CachedFrame>, A>, A>,
+    pages: Vec<Vec<Mutex<FilePage>, A>, A>,
 }
 
 // Opens the files, none of whose pages a frame caches. Their bytes are moved, not copied.
@@ -164,29 +164,47 @@ fn new_seats<A: Allocator + Clone>(
 fn new_pages<A: Allocator + Clone>(
     alloc: &A,
     files: &[FileSpec<A>],
-) -> Result<Vec<Vec<Mutex<CachedFrame>, A>, A>, NoMemory>
+) -> Result<Vec<Vec<Mutex<FilePage>, A>, A>, NoMemory>
+    requires { length files.now ≤ 16 }
     ensures { IfOk result (λ v. length v.items ≡ length files.now) }
 {
     let mut pages = Vec::with_capacity(alloc.clone()?, files.len())?;
     'files: for file in files {
-        pages.push_reserved(new_file_pages(alloc, file.bytes.len())?);
+        let number = pages.len() as u32;
+        let own = new_file_pages(alloc, pages.as_slice(), number, file.bytes.len())?;
+        pages.push_reserved(own);
     }
     Ok(pages)
 }
 
-// The pages of a file of this many bytes, none of which a frame caches.
+// The pages of the file behind these, which has this many bytes: no frame caches one of them.
 fn new_file_pages<A: Allocator + Clone>(
     alloc: &A,
+    _before: &[Vec<Mutex<FilePage>, A>],
+    file: u32,
     bytes: usize,
-) -> Result<Vec<Mutex<CachedFrame>, A>, NoMemory>
+) -> Result<Vec<Mutex<FilePage>, A>, NoMemory>
+    requires { file ≡ length _before.now }
     ensures { IfOk result (λ v. length v.items ≡ page_count bytes) }
 {
     let count = bytes.div_ceil(PAGE_SIZE as usize);
     let mut pages = Vec::with_capacity(alloc.clone()?, count)?;
-    'pages: for _page in 0..count {
-        pages.push_reserved(Mutex::new(CachedFrame::none()));
+    'pages: for page in 0..count as u64 {
+        let cached = CachedFrame::none();
+        put_page(&mut pages, FilePage { file, page, cached }, file);
     }
     Ok(pages)
+}
+
+// One page of the file more, under its own number and a lock. No frame caches it.
+fn put_page<A: Allocator>(pages: &mut Vec<Mutex<FilePage>, A>, page: FilePage, _file: u32)
+    requires room { vec_len pages.old < vec_capacity pages.old }
+    requires own { (page.file ≡ _file) × (page.page ≡ vec_len pages.old) }
+    requires uncached { page.cached ≡ None }
+    ensures count { vec_len pages.new ≡ vec_len pages.old + 1 }
+    ensures room { vec_capacity pages.new ≡ vec_capacity pages.old }
+{
+    pages.push_reserved(Mutex::new(page));
 }
 
 // This many frames, all free.
@@ -197,17 +215,25 @@ fn new_frames<A: Allocator + Clone>(
     ensures { IfOk result (λ v. length v.items ≡ count) }
 {
     let mut frames = Vec::with_capacity(alloc.clone()?, count as usize)?;
-    'frames: for _frame in 0..count {
+    'frames: for number in 0..count {
         let cell = FrameCell::new(alloc.clone()?)?;
         let count = ObjectCount::new();
-        put_frame(&mut frames, FrameState { cell, count });
+        put_frame(
+            &mut frames,
+            FrameState {
+                number,
+                cell,
+                count,
+            },
+        );
     }
     Ok(frames)
 }
 
-// One frame more, under a lock: it is free, has zeros, and nothing counts it.
+// One frame more, under its own number and a lock: it is free, has zeros, and nothing counts it.
 fn put_frame<A: Allocator + Clone>(frames: &mut Vec<Mutex<FrameState<A>>, A>, frame: FrameState<A>)
     requires room { vec_len frames.old < vec_capacity frames.old }
+    requires own { frame.number ≡ vec_len frames.old }
     requires free { frame.cell.is_free ≡ true }
     requires bytes { cell_bytes frame.cell ≡ zeros }
     requires count { frame.count ≡ record { global = pos 0; is_queued = false; is_dirty = false } }

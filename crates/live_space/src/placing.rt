@@ -4,7 +4,7 @@
 ghost use Rattle.std.specs.Prelude.{◌≡◌, ◌≢◌, ◌+◌, ◌*◌, ◌<◌, IfSome, IsSome, IsTrue, All};
 ghost use Rattle.vm_base.specs.declared.replies.Reply.TheVariants.{Mapped};
 ghost use Rattle.live_tree.specs.Held.{Covers, CrossesNoEdge};
-ghost use Rattle.live_tree.specs.Shown.{shown};
+ghost use Rattle.live_tree.specs.Shown.{KeepsPages, shown};
 ghost use Rattle.slot_lock.specs.declared.plan.Goal.TheVariants as GoalOf;
 ghost use Rattle.slot_lock.specs.declared.plan.Target.TheVariants.{Window};
 ghost use Rattle.slot_lock.specs.Plan.{IsSoundGoal, IsSoundPlace, IsSoundPut, IsTarget, target_range};
@@ -38,12 +38,17 @@ impl<A: Allocator + Clone> Live<A> {
     {
         let window = place.window;
         if window.first < from && from < window.end {
-            if let Some(first) = self.tree.find_room(rt, from, window.end, place.count) {
-                return Some(first);
+            if let Some(room) = self.tree.find_room(rt, from, window.end, place.count) {
+                return Some(room.first());
             }
         }
-        self.tree
+        match self
+            .tree
             .find_room(rt, window.first, window.end, place.count)
+        {
+            Some(room) => Some(room.first()),
+            None => None,
+        }
     }
 }
 
@@ -213,6 +218,7 @@ impl<'c, R: Wait, G: Gate, A: Allocator + Clone> InCall<'c, '_, '_, '_, R, G, A>
         ensures goes { GoesOn self.old.seat self.new.seat }
         ensures place { (self.new.held.first ≡ self.old.held.first)
             × (self.new.held.end ≡ self.old.held.end) }
+        ensures pages { KeepsPages self.old.held self.new.held }
         ensures room { IsTrue result → HasStepsLeft 2 self.new.held self.new.seat.now }
         ensures edges { IsTrue result → All (CrossesNoEdge range) self.new.held.slots }
     {

@@ -3,9 +3,9 @@ ghost use Rattle.std.specs.Prelude.{◌≡◌, length};
 ghost use Rattle.live_space.specs.Space.{LiveView};
 
 use crossbeam_utils::CachePadded;
-use frames::{CachedFrame, Objects};
+use frames::Objects;
 use live_pages::free_frames::FreeFrames;
-use live_pages::pieces::{CoreState, FrameState, Pieces};
+use live_pages::pieces::{CoreState, FilePage, FrameState, Pieces};
 use live_tree::tree::SharedTree;
 use refcache::Epochs;
 use std::alloc::Allocator;
@@ -20,7 +20,7 @@ use std::sync::Mutex;
 pub struct Live<A: Allocator + Clone> {
     pub(crate) tree: SharedTree<A>,
     pub(crate) objects: Objects<A>,
-    pub(crate) pages: Vec<Vec<Mutex<CachedFrame>, A>, A>,
+    pub(crate) pages: Vec<Vec<Mutex<FilePage>, A>, A>,
     pub(crate) cores: Vec<CachePadded<Mutex<CoreState<A>>>, A>,
     pub(crate) free: CachePadded<Mutex<FreeFrames<A>>>,
     pub(crate) frames: Vec<Mutex<FrameState<A>>, A>,

@@ -6,7 +6,7 @@ use Rattle.live_levels.specs.Slots.{SlotView}
 use Rattle.live_tree.specs.Shown.{slot_at, shown}
 
 slot_at_unused : (ss : List SlotView) → ((k : ℕ) (d : SlotView) → k < length ss → IsUnused (get_or ss k d)) → (p : ℕ) → IsUnused (slot_at ss p)
-slot_at_unused [] each p = record { owner = refl; content = refl; changes = refl }
+slot_at_unused [] each p = record { owner = refl; content = refl; changes = refl; whole = refl }
 slot_at_unused (s ∷ ss) each p =
     either (nat_lt p (s.first + s.count)) s (slot_at ss p) (each zero s (omega arith)) (slot_at_unused ss (λ k d less. each (suc k) d (omega arith)) p)
   where

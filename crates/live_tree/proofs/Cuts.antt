@@ -1,31 +1,32 @@
 -- Locked slots that come in the place of one
-use Rattle.slot_lock.proofs.Words.{◌≡◌, ℕ, suc, ◌+◌, ◌<◌, ◌≤◌, List, [], ◌∷◌, ◌++◌, map, length, take, drop, get_or, Option, Some, sym, ap, ◌∙◌, subst, arith}
+use Rattle.slot_lock.proofs.Words.{◌≡◌, ℕ, suc, ◌+◌, ◌<◌, ◌≤◌, List, [], ◌∷◌, ◌++◌, map, length, take, drop, get_or, Option, Some, refl, sym, ap, ◌∙◌}
+use Rattle.slot_lock.proofs.Words.{subst, arith}
 use Rattle.slot_lock.proofs.Words.{All, IsSome, remove, mutex_guard_value, MutexGuard, length-append, map-append, take_all, take_more, get_or-map, length-map}
-use Rattle.slot_lock.proofs.Words.{All-append, PageRange}
+use Rattle.slot_lock.proofs.Words.{All-append, PageInfo, PageRange, get_or_default}
 use Rattle.std.specs.List.{insert_slice}
 use Rattle.std.proofs.Math.Seq.{drop-append-add, split_at, take-append_seam}
-use Rattle.std.proofs.lemmas.List.{append_assoc, drop-drop, drop-map, length-take-le, take-map}
+use Rattle.std.proofs.lemmas.List.{append_assoc, drop-drop, get_or-append-add, get_or-drop, drop-map, length-take-le, take-map}
 use Rattle.std.proofs.lemmas.List.Elements.{All-drop, All-take}
 use Rattle.live_levels.specs.Slots.{SlotView}
-use Rattle.live_tree.specs.Cutting.{AddsSlots, CutsFirst, IsFirstCrossing, IsOwnedBy}
+use Rattle.live_tree.specs.Cutting.{AddsSlots, CutsFirst, IsCutInto, IsFirstCrossing, IsPartOf, PutsParts}
 use Rattle.live_tree.specs.Guards.{no_slot, slot_of}
 use Rattle.live_tree.specs.Held.{CrossesNoEdge, SideBySide}
 use Rattle.live_tree.proofs.Pushed.{all_more, all_of_one, map_more, side_by_side_more}
 
 -- ---- one locked slot more
 
-pub adds_more : (core first next end n : ℕ) (gs hs hs' : List (Option (MutexGuard SlotView))) (g : MutexGuard SlotView)
-    → AddsSlots core first next n gs hs → hs' ≡ hs ++ Some g ∷ []
-    → (mutex_guard_value g).first ≡ next → end ≡ next + (mutex_guard_value g).count → IsOwnedBy core (mutex_guard_value g)
-    → AddsSlots core first end (n + 1) gs hs'
-adds_more core first next end n gs hs hs' g h is at ends own = record {
+pub adds_more : (core first : ℕ) (content : Option PageInfo) (next end n : ℕ) (gs hs hs' : List (Option (MutexGuard SlotView))) (g : MutexGuard SlotView)
+    → AddsSlots core first content next n gs hs → hs' ≡ hs ++ Some g ∷ []
+    → (mutex_guard_value g).first ≡ next → end ≡ next + (mutex_guard_value g).count → IsPartOf core first content (mutex_guard_value g)
+    → AddsSlots core first content end (n + 1) gs hs'
+adds_more core first content next end n gs hs hs' g h is at ends part = record {
   more = h.more ++ Some g ∷ [];
   are = is ∙ (ap (λ l. l ++ Some g ∷ []) h.are ∙ append_assoc gs h.more (Some g ∷ []));
   count = omega (arith, length-append h.more (Some g ∷ []), h.count);
   some = all_more h.more g h.some;
   chain = rw (map_more h.more g) (side_by_side_more first next end (map slot_of h.more) (mutex_guard_value g) h.chain at ends);
-  owned = rw (map_more h.more g) (All-append (IsOwnedBy core) (map slot_of h.more) (mutex_guard_value g ∷ []) h.owned
-      (all_of_one (IsOwnedBy core) (mutex_guard_value g) own));
+  each = rw (map_more h.more g) (All-append (IsPartOf core first content) (map slot_of h.more) (mutex_guard_value g ∷ []) h.each
+      (all_of_one (IsPartOf core first content) (mutex_guard_value g) part));
 }
 
 -- ---- the first slot that crosses an edge
@@ -69,6 +70,16 @@ in_place gs more at n lt is =
     ∙ (ap (λ l. l ++ drop (suc (length front)) (front ++ drop at gs)) (take-append_seam front (drop at gs))
     ∙ (ap (λ m. front ++ drop m (front ++ drop at gs)) one ∙ (ap (λ l. front ++ l) rest ∙ append_assoc (take at gs) more (drop (at + 1) gs))))
 
+-- the one that comes after them then
+pub in_place_item : {X : Type 0} (gs more : List X) (at n : ℕ) (d : X) → at < length gs → n ≡ at + length more
+    → get_or (insert_slice gs at more) n d ≡ get_or gs at d
+in_place_item gs more at n d lt is =
+    let front = take at gs ++ more in
+    let len : n ≡ length front + 0 = omega (arith, length-append (take at gs) more, length-take-le at gs (omega arith), is) in
+    let here : at + 0 ≡ at = omega arith in
+    ap (λ k. get_or (front ++ drop at gs) k d) len
+    ∙ (get_or-append-add front (drop at gs) 0 d ∙ (get_or-drop at gs 0 d ∙ ap (λ k. get_or gs k d) here))
+
 -- the slots, cut before one of them
 pub side_split : (first end : ℕ) (xs : List SlotView) (s : SlotView) (ys : List SlotView) → SideBySide first end (xs ++ s ∷ ys)
     → SideBySide first s.first xs × SideBySide (s.first + s.count) end ys
@@ -94,27 +105,7 @@ cut_at ss at lt =
     let one : suc at ≡ at + 1 = omega arith in
     split_at ss at no_slot lt ∙ ap (λ n. take at ss ++ get_or ss at no_slot ∷ drop n ss) one
 
-pub cuts_first : (core : ℕ) (range : PageRange) (first end : ℕ) (gs hs more : List (Option (MutexGuard SlotView))) (at : ℕ) (s : SlotView)
-    → IsFirstCrossing range (map slot_of gs) at → s ≡ get_or (map slot_of gs) at no_slot
-    → hs ≡ take at gs ++ (more ++ drop (at + 1) gs) → length more ≡ 512 → SideBySide s.first (s.first + s.count) (map slot_of more)
-    → All (IsOwnedBy core) (map slot_of more)
-    → CutsFirst core range (record { first = first; end = end; slots = map slot_of gs }) (record { first = first; end = end; slots = map slot_of hs })
-cuts_first core range first end gs hs more at s h here is count pages owned = let ss = map slot_of gs in record {
-  left = take at ss;
-  slot = s;
-  right = drop (at + 1) ss;
-  parts = map slot_of more;
-  before = cut_at ss at h.within ∙ ap (λ x. take at ss ++ x ∷ drop (at + 1) ss) (sym here);
-  after = ap (λ l. record { first = first; end = end; slots = map slot_of l }) is
-      ∙ ap (λ l. record { first = first; end = end; slots = l }) (map_parts gs more at);
-  fits = h.before;
-  crosses = rw here (h.crosses no_slot);
-  count = length-map more slot_of ∙ count;
-  pages = pages;
-  owned = owned;
-}
-
-pub still_held : (first end : ℕ) (gs hs more : List (Option (MutexGuard SlotView))) (at : ℕ) (s : SlotView) → at < length (map slot_of gs)
+still_held : (first end : ℕ) (gs hs more : List (Option (MutexGuard SlotView))) (at : ℕ) (s : SlotView) → at < length (map slot_of gs)
     → s ≡ get_or (map slot_of gs) at no_slot
     → hs ≡ take at gs ++ (more ++ drop (at + 1) gs) → SideBySide s.first (s.first + s.count) (map slot_of more) → All IsSome more
     → All IsSome gs × SideBySide first end (map slot_of gs) → All IsSome hs × SideBySide first end (map slot_of hs)
@@ -132,23 +123,53 @@ still_held first end gs hs more at s lt here is pages some held =
 
 -- ---- the whole step, from what its parts tell
 
-pub cut_done : (core : ℕ) (range : PageRange) (first end : ℕ) (gs hs ks : List (Option (MutexGuard SlotView))) (at from until next n : ℕ)
-    (slot : MutexGuard SlotView) → All IsSome gs × SideBySide first end (map slot_of gs) → IsFirstCrossing range (map slot_of gs) at
-    → Some slot ≡ get_or gs at (Some slot) → from ≡ (mutex_guard_value slot).first → until ≡ from + (mutex_guard_value slot).count
-    → AddsSlots core from next n gs hs → (n ≡ 512) × (next ≡ until)
+-- the guard that a place has, whatever stands in for it past the end
+pub item_at : (gs : List (Option (MutexGuard SlotView))) (at : ℕ) (x : Option (MutexGuard SlotView)) (slot : MutexGuard SlotView) → at < length gs
+    → Some slot ≡ get_or gs at (Some slot) → x ≡ get_or gs at x → x ≡ Some slot
+item_at gs at x slot lt item is = is ∙ (get_or_default gs at x (Some slot) lt ∙ sym item)
+
+pub parts_put : (core at from until next n : ℕ) (content : Option PageInfo) (gs hs ks : List (Option (MutexGuard SlotView))) (slot : MutexGuard SlotView)
+    → at < length gs → Some slot ≡ get_or gs at (Some slot) → from ≡ (mutex_guard_value slot).first
+    → until ≡ (mutex_guard_value slot).first + (mutex_guard_value slot).count → content ≡ (mutex_guard_value slot).content
+    → AddsSlots core from content next n gs hs → (n ≡ 512) × (next ≡ until)
     → ((fs more : List (Option (MutexGuard SlotView))) → hs ≡ fs ++ more → length more ≡ 512 → ks ≡ take at fs ++ (more ++ drop (at + 1) fs))
-    → CutsFirst core range (record { first = first; end = end; slots = map slot_of gs })
-    (record { first = first; end = end; slots = map slot_of ks }) × (All IsSome ks × SideBySide first end (map slot_of ks))
-cut_done core range first end gs hs ks at from until next n slot held crossing item begins ends added done placed =
+    → PutsParts core at gs ks
+parts_put core at from until next n content gs hs ks slot lt item begins ends has added done placed =
     let s = mutex_guard_value slot in
-    let lt : at < length gs = omega (arith, length-map gs slot_of, crossing.within) in
     let here : s ≡ get_or (map slot_of gs) at no_slot = sym (get_map gs at no_slot (Some slot) lt item) in
     let count : length added.more ≡ 512 = added.count ∙ done.0 in
-    let is = placed gs added.more added.are count in
-    let last : next ≡ s.first + s.count = done.1 ∙ (ends ∙ ap (λ (k : ℕ). k + s.count) begins) in
+    let last : next ≡ s.first + s.count = done.1 ∙ ends in
     let pages : SideBySide s.first (s.first + s.count) (map slot_of added.more) =
     subst (λ (k : ℕ). SideBySide k (s.first + s.count) (map slot_of added.more)) begins
-    (subst (λ (k : ℕ). SideBySide from k (map slot_of added.more)) last added.chain) in (
-      cuts_first core range first end gs ks added.more at s crossing here is count pages added.owned,
-      still_held first end gs ks added.more at s crossing.within here is pages added.some held,
-    )
+    (subst (λ (k : ℕ). SideBySide from k (map slot_of added.more)) last added.chain) in
+    let each : All (IsPartOf core s.first s.content) (map slot_of added.more) =
+    subst (λ (k : ℕ). All (IsPartOf core k s.content) (map slot_of added.more)) begins
+    (subst (λ (o : Option PageInfo). All (IsPartOf core from o) (map slot_of added.more)) has added.each) in
+    let cut : IsCutInto core s (map slot_of added.more) = record { count = length-map added.more slot_of ∙ count; pages = pages; each = each } in record {
+      more = added.more;
+      are = placed gs added.more added.are count;
+      some = added.some;
+      cut = subst (λ (u : SlotView). IsCutInto core u (map slot_of added.more)) here cut;
+    }
+
+pub cuts_parts : (core : ℕ) (range : PageRange) (first end : ℕ) (gs ks : List (Option (MutexGuard SlotView))) (at : ℕ)
+    → IsFirstCrossing range (map slot_of gs) at → PutsParts core at gs ks
+    → CutsFirst core range (record { first = first; end = end; slots = map slot_of gs }) (record { first = first; end = end; slots = map slot_of ks })
+cuts_parts core range first end gs ks at h put = let ss = map slot_of gs in record {
+  left = take at ss;
+  slot = get_or ss at no_slot;
+  right = drop (at + 1) ss;
+  parts = map slot_of put.more;
+  before = cut_at ss at h.within;
+  after = ap (λ l. record { first = first; end = end; slots = map slot_of l }) put.are
+      ∙ ap (λ l. record { first = first; end = end; slots = l }) (map_parts gs put.more at);
+  fits = h.before;
+  crosses = h.crosses no_slot;
+  cut = put.cut;
+}
+
+pub parts_held : (core : ℕ) (range : PageRange) (first end : ℕ) (gs ks : List (Option (MutexGuard SlotView))) (at : ℕ)
+    → IsFirstCrossing range (map slot_of gs) at → PutsParts core at gs ks
+    → All IsSome gs × SideBySide first end (map slot_of gs) → All IsSome ks × SideBySide first end (map slot_of ks)
+parts_held core range first end gs ks at h put held =
+    still_held first end gs ks put.more at (get_or (map slot_of gs) at no_slot) h.within refl put.are put.cut.pages put.some held

@@ -5,6 +5,7 @@ pub mod Committed
 pub mod Cuts
 pub mod Decided
 pub mod Gathered
+pub mod Kept
 pub mod Lending
 pub mod Losses
 pub mod Pages

@@ -1,5 +1,6 @@
 -- What held pages lose, slot after slot
-use Rattle.slot_lock.proofs.Words.{◌≡◌, ℕ, suc, ◌+◌, ◌-◌, ◌<◌, ◌≤◌, nat_lt, max, not, ◌==◌, ◌||◌, ⊎_elim, Bool, true, false, cond, List, [], ◌∷◌, ◌++◌, map, take}
+use Rattle.slot_lock.proofs.Words.{◌≡◌, ℕ, suc, ◌+◌, ◌-◌, ◌<◌, ◌≤◌, nat_lt, max, not, ◌==◌, ◌||◌, ⊎_elim, Bool, true, false, cond, List, [], ◌∷◌}
+use Rattle.slot_lock.proofs.Words.{◌++◌, map, take}
 use Rattle.slot_lock.proofs.Words.{get_or, length, Option, Some, None, is_some, refl, sym, ap, ◌∙◌, subst, arith, cases_lt, nat_tests, All, MutexGuard}
 use Rattle.slot_lock.proofs.Words.{PageInfo, PageRange, has, has_in, in_has, members, frame_of, is_leaf, is_recorded, map-append}
 use Rattle.slot_lock.proofs.Words.{take_all, take_more, All-append}

@@ -37,4 +37,5 @@ bare_of_side first end [] h = h
 bare_of_side first end (s ∷ ss) h = (h.0, bare_of_side (first + s.count) end ss h.1)
 
 pub alike_side : (first end : ℕ) (ss ts : List SlotView) → AreAlike ss ts → SideBySide first end ts → SideBySide first end ss
-alike_side first end ss ts same h = bare_of_side first end ss (subst (SideBySide first end) (sym same) (side_map without_room (λ _. refl) (λ _. refl) first end ts h))
+alike_side first end ss ts same h = bare_of_side first end ss (subst (SideBySide first end) (sym same) (side_map without_room (λ _. refl)
+    (λ _. refl) first end ts h))

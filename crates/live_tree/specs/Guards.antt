@@ -1,11 +1,11 @@
 -- The slots that guards hold
-use Rattle.std.specs.Prelude.{[], Option, Some, None}
+use Rattle.std.specs.Prelude.{false, [], Option, Some, None}
 use Rattle.std.specs.Sync.Mutex.{mutex_guard_value}
 use Rattle.std.specs.declared.sync.MutexGuard.{MutexGuard}
 use Rattle.live_levels.specs.Slots.{SlotView}
 
 abbrev pub no_slot : SlotView
-no_slot = record { first = 0; count = 0; owner = None; content = None; changes = []; room = 0 }
+no_slot = record { first = 0; count = 0; owner = None; content = None; changes = []; room = 0; divided = false }
 
 -- the slot of a guard that is there
 abbrev pub slot_of : Option (MutexGuard SlotView) → SlotView

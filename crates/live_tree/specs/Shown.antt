@@ -20,6 +20,10 @@ shown ss = record {
   edge = λ p. (slot_at ss p).first == p;
 }
 
+-- each page has what it had
+abbrev pub KeepsPages : HeldView → HeldView → Type 0
+KeepsPages h k = (p : ℕ) → (shown k.slots).info p ≡ (shown h.slots).info p
+
 -- each held page has what the change makes of it
 abbrev pub ChangesPages : Change → HeldView → HeldView → Type 0
 ChangesPages change h k = (p : ℕ) → h.first ≤ p → p < h.end

@@ -11,7 +11,7 @@ ghost use Rattle.live_tree.specs.Held.{Covers};
 ghost use Rattle.live_tree.specs.Shown.{shown};
 
 use crate::held::Held;
-use crate::held::losses::{Frames, FramesLost, add_frame, frame_of};
+use crate::held::losses::{FrameList, FramesLost, add_frame, frame_of};
 use frames::Objects;
 use slot_lock::{Change, Goal, SlotMap};
 use smallvec::SmallVec;
@@ -62,7 +62,7 @@ fn frame_lost<'a, A: Allocator>(
     alloc: &'a A,
     change: Change,
     info: &Option<PageInfo>,
-) -> Option<Frames<'a, A>>
+) -> Option<FrameList<'a, A>>
     ensures { IfSome result (λ frames. frames.items
         ≡ option_to_list (frame_lost change (λ _. info.now) 0)) }
 {

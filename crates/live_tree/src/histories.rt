@@ -1,7 +1,7 @@
 //! The histories of all slots, as a tree hands them out.
-ghost use Rattle.std.specs.Prelude.{◌≡◌, ◌^◌, []};
+ghost use Rattle.std.specs.Prelude.{◌≡◌, ◌^◌};
 ghost use Rattle.std.specs.Arc.{arc_value};
-ghost use Rattle.live_levels.specs.Histories.{Chain, Grew};
+ghost use Rattle.live_levels.specs.Histories.{Chain};
 
 use live_levels::close::SlotHistory;
 use seats::Tickets;
@@ -18,11 +18,11 @@ pub struct Histories<A: Allocator> {
 }
 
 impl<A: Allocator> Histories<A> {
-    /// The histories that were gathered in the tree of this word, from page 0 on.
-    #[tactic(auto, using(crate::proofs::Gathered::chain_of))]
+    /// These histories, with the word of their tree.
     pub(crate) fn new(slots: Vec<SlotHistory<A>, A>, tickets: Arc<Tickets<A>, A>) -> Histories<A>
-        requires { Grew 0 (2 ^ 36) [] slots.items }
-        ensures { arc_value result.tickets ≡ arc_value tickets }
+        requires { ∥ Chain 0 (2 ^ 36) slots.items ∥₁ }
+        ensures word { arc_value result.tickets ≡ arc_value tickets }
+        ensures slots { result.slots.items ≡ slots.items }
     {
         Histories { slots, tickets }
     }

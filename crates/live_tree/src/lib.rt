@@ -1,7 +1,7 @@
 //! The shared tree of slots, and the slots that a call holds.
 //!
-//! - `tree` (`SharedTree`): four levels, from its making to its end, with the word of tickets; `histories`: what it
-//!   hands out.
+//! - `tree` (`SharedTree`): four levels, from its making to its end, with the word of tickets; `histories`, `room`:
+//!   what it hands out and finds.
 //! - `held` (`Held`): how a call takes slots, cuts them, and changes them; `decide_held`: what is decided over them;
 //!   `letting`: lets them go, from left to right.
 //!
@@ -15,4 +15,5 @@ pub mod decide_held;
 pub mod held;
 pub mod histories;
 pub mod letting;
+pub mod room;
 pub mod tree;

@@ -1,16 +1,20 @@
 //! The shared tree: four levels of slots, from its making to its end.
-ghost use Rattle.std.specs.Prelude.{◌≡◌, ℕ, ◌+◌, ◌<◌, ◌≤◌, ◌^◌, IfOk, IfSome, Some};
+ghost use Rattle.std.specs.Prelude.{◌≡◌, ℕ, ◌+◌, ◌<◌, ◌≤◌, ◌^◌, IfOk, IfSome, Some, map};
 ghost use Rattle.std.specs.Arc.{arc_value};
 ghost use Rattle.std.specs.Sync.Mutex.{mutex_guard_value};
+ghost use Rattle.live_levels.specs.Histories.{AreSlots, history_of, past_of};
 ghost use Rattle.live_levels.specs.Nexts.{Answers, Cuts, Folds};
 ghost use Rattle.live_levels.specs.Parts.{AreUnused};
 ghost use Rattle.live_levels.specs.Slots.{HasPage};
 ghost use Rattle.slot_lock.specs.Slots.{IsNew};
 ghost use Rattle.seats.specs.Tickets.{IsNew as IsNewTicketer};
-ghost use Rattle.live_tree.specs.Named.{AreOf};
+ghost use Rattle.live_tree.specs.Named.{BearWord};
 ghost use Rattle.live_tree.specs.Shown.{shown};
 
 use crate::histories::Histories;
+use crate::room::Room;
+use live_levels::close::{Kept, histories_of};
+use live_levels::fold::JoinedSlots;
 use live_levels::inner::Inner;
 use live_levels::leaves::Leaves;
 use live_levels::level::{Level, Next, SlotCut, Stepper};
@@ -19,7 +23,7 @@ use live_levels::slot::SlotState;
 use seats::{Ticketer, Tickets};
 use std::alloc::Allocator;
 use std::sync::{Arc, MutexGuard, Wait};
-use vm_base::{CoreId, NoMemory, PageRange};
+use vm_base::{CoreId, NoMemory};
 
 /// The first level: a slot has 2^27 pages, a slot of the levels below 2^18, 2^9 and 1.
 type Root<A> = Inner<Inner<Inner<Leaves<A>, A>, A>, A>;
@@ -151,9 +155,9 @@ impl<A: Allocator + Clone> SharedTree<A> {
     /// Makes one slot of the deepest level that has the page, where that isn't the first level and
     /// its slots can be one: none is divided, no core is to lock one first, they have no frame and
     /// no recorded core, and the mapping goes on from slot to slot. The slot begins its history
-    /// anew with one change under the ticket of the step, which is noted. Answers the slot's pages;
-    /// `None` where nothing changed. It takes no memory.
-    pub fn fold<S: Stepper>(&mut self, stepper: &mut S, page: u64) -> Option<PageRange>
+    /// anew with one change under the ticket of the step, which is noted. `None` where nothing
+    /// changed. It takes no memory.
+    pub fn fold<S: Stepper>(&mut self, stepper: &mut S, page: u64) -> Option<JoinedSlots>
         requires { S.can_step stepper.old }
         ensures folds { Folds S.stepped stepper.old stepper.new page result }
         ensures word { self.new.tickets ≡ self.old.tickets }
@@ -165,31 +169,34 @@ impl<A: Allocator + Clone> SharedTree<A> {
     /// The slots are locked one after another, each alone, whoever holds their pages, until enough
     /// are found: of a page that was unmapped then, another thread may make what it likes since.
     /// `None` where there are no such pages, or a slot was in a wrong place. It takes no memory.
-    pub fn find_room<R: Wait>(&self, rt: &R, from: u64, end: u64, n: u64) -> Option<u64>
-        ensures { IfSome result (λ first. (from ≤ first) × (first + n ≤ end)) }
+    pub fn find_room<R: Wait>(&self, rt: &R, from: u64, end: u64, n: u64) -> Option<Room>
+        ensures within { IfSome result (λ room. (from ≤ room.first) × (room.first + n ≤ end)) }
+        ensures room { IfSome result (λ room. room.first + n ≤ room.end) }
     {
-        let mut first = from;
-        let mut next = from;
+        let mut room = Room::at(from);
         'slots: for _ in from..end {
-            if next >= end {
+            if room.end() >= end {
                 return None;
             }
-            let slot = self.lock_at(rt, next)?;
-            next = slot.first() + slot.count();
+            let slot = self.lock_at(rt, room.end())?;
             if slot.content().is_some() {
-                first = next;
-            } else if end.min(next) - first >= n {
-                return Some(first);
+                room = Room::at(slot.first() + slot.count());
+            } else {
+                room = room.with(&slot);
+                if end.min(room.end()) - room.first() >= n {
+                    return Some(room);
+                }
             }
         }
         None
     }
 
-    /// The histories of all slots in the order of their pages, which are all pages below 2^36, with
-    /// the tree's word. `None` where memory ran out, or a slot was in a wrong place.
+    /// The histories of all slots that aren't divided, in the order of their pages, which are all
+    /// pages below 2^36, with the tree's word. `None` where memory ran out, or a slot was in a wrong
+    /// place.
     pub fn histories(&mut self) -> Option<Histories<A>>
-        ensures own { IfSome result (AreOf (arc_value self.old.tickets)) }
-        ensures word { self.new.tickets ≡ self.old.tickets }
+        ensures word { IfSome result (BearWord (arc_value self.old.tickets)) }
+        ensures same { self.new.tickets ≡ self.old.tickets }
     {
         let Ok(own) = self.alloc.clone() else {
             return None;
@@ -197,11 +204,26 @@ impl<A: Allocator + Clone> SharedTree<A> {
         let Ok(tickets) = Arc::try_clone(&self.tickets) else {
             return None;
         };
-        let mut slots = Vec::new(own);
-        let end = self.root.gather(&self.alloc, &mut slots, 0)?;
+        let mut kept = Vec::new(own);
+        let end = self.root.gather(&mut kept, 0)?;
         if end != END {
             return None;
         }
-        Some(Histories::new(slots, tickets))
+        hand_out(&self.alloc, &kept, tickets)
     }
+}
+
+// The histories of these slots, which lie under the locks of the word's tree and have all pages.
+// None where memory ran out.
+fn hand_out<A: Allocator + Clone>(
+    alloc: &A,
+    kept: &[Kept<'_, A>],
+    tickets: Arc<Tickets<A>, A>,
+) -> Option<Histories<A>>
+    requires { AreSlots 0 (2 ^ 36) kept.now }
+    ensures word { IfSome result (BearWord (arc_value tickets)) }
+    ensures own { IfSome result (λ h. map past_of h.slots.items ≡ map history_of kept.now) }
+{
+    let slots = histories_of(alloc, kept)?;
+    Some(Histories::new(slots, tickets))
 }

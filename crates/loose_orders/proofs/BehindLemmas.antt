@@ -121,7 +121,8 @@ store_own_behind t c addr byte k kept new prot known is done at off has due owns
       e',
       subst (AllKept (put s.old k.call (put (s.old k.call) (page_of addr) (Some (Some f))))) (sym made)
           (All-map (IsKept (put s.old k.call (put (s.old k.call) (page_of addr) (Some (Some f))))) (kept_stored k.call k.page k.offset byte) kept
-          (All-weaker (IsKept s.old) (λ (x : Kept). IsKept (put s.old k.call (put (s.old k.call) (page_of addr) (Some (Some f)))) (kept_stored k.call k.page k.offset byte x))
+          (All-weaker (IsKept s.old) (λ (x : Kept). IsKept (put s.old k.call (put (s.old k.call) (page_of addr) (Some (Some f))))
+          (kept_stored k.call k.page k.offset byte x))
           (λ x kx. subst (λ (p : ℕ). IsKept (put s.old k.call (put (s.old k.call) p (Some (Some f)))) (kept_stored k.call k.page k.offset byte x)) at
           (subst (λ (i : ℕ). IsKept (put s.old k.call (put (s.old k.call) k.page (Some (Some (owned back prot (put own i byte))))))
           (kept_stored k.call k.page k.offset byte x)) off

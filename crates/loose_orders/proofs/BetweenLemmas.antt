@@ -1,5 +1,6 @@
 -- What is so at each place between two
-use Rattle.slot_lock.proofs.Words.{◌≡◌, ◌≢◌, ◌==◌, ◌∙◌, ℕ, ◌+◌, ◌<◌, ◌≤◌, Bool, true, false, List, Option, None, Some, ap, refl, subst, sym, eq_true, eq_false, arith}
+use Rattle.slot_lock.proofs.Words.{◌≡◌, ◌≢◌, ◌==◌, ◌∙◌, ℕ, ◌+◌, ◌<◌, ◌≤◌, Bool, true, false, List, Option, None, Some, ap, refl, subst, sym, eq_true}
+use Rattle.slot_lock.proofs.Words.{eq_false, arith}
 use Rattle.vm_base.specs.declared.replies.Reply.TheVariants.{Segv}
 use Rattle.vm_base.specs.declared.replies.SegvCode.{SegvCode}
 use Rattle.vm_base.specs.declared.replies.SegvCode.TheVariants.{AccErr}
@@ -103,7 +104,8 @@ lasts_more h moves a at ended end now before here f g e less = go (e == at) refl
         let ne : e ≢ at = eq_false e at same in
         let l : ended ≤ d.end = before e (omega (arith, less, ne)) d above it in omega (arith, l, f)
 
-pub lasts_first : (h : List Timed) (moves : List Move) (a end : ℕ) → ((c : Timed) → IsAt h moves a c → end ≤ c.end) → (e : ℕ) → e < a + 1 → Lasts h moves a end e
+pub lasts_first : (h : List Timed) (moves : List Move) (a end : ℕ) → ((c : Timed) → IsAt h moves a c → end ≤ c.end) → (e : ℕ) → e < a + 1
+    → Lasts h moves a end e
 lasts_first h moves a end here e less d above it =
     let same : e ≡ a = omega (arith, less, above) in here d (subst (λ (x : ℕ). IsAt h moves x d) same it)
 

@@ -28,12 +28,14 @@ pub fetch_same : (rule : PlaceRule) (t : Plain) (core addr : ℕ) (v : ReplyVerd
 fetch_same rule t core addr Legal u j = j.1
 fetch_same rule t core addr (Illegal due) u j = j.2
 
-pub load_found : (rule : PlaceRule) (t : Plain) (core addr : ℕ) (b : ℕ) (v : ReplyVerdict) (u : Plain) → v ≡ Illegal (Byte b) → Judges rule t core (Load addr) Bus v u
+pub load_found : (rule : PlaceRule) (t : Plain) (core addr : ℕ) (b : ℕ) (v : ReplyVerdict) (u : Plain) → v ≡ Illegal (Byte b)
+    → Judges rule t core (Load addr) Bus v u
     → access_reply t addr By.Load ≡ Some (Byte b)
 load_found rule t core addr b v u is j =
     let k = subst (λ (x : ReplyVerdict). Judges rule t core (Load addr) Bus x u) is j in k.1.1.0
 
-pub fetch_found : (rule : PlaceRule) (t : Plain) (core addr : ℕ) (b : ℕ) (v : ReplyVerdict) (u : Plain) → v ≡ Illegal (Byte b) → Judges rule t core (Fetch addr) Bus v u
+pub fetch_found : (rule : PlaceRule) (t : Plain) (core addr : ℕ) (b : ℕ) (v : ReplyVerdict) (u : Plain) → v ≡ Illegal (Byte b)
+    → Judges rule t core (Fetch addr) Bus v u
     → access_reply t addr By.Fetch ≡ Some (Byte b)
 fetch_found rule t core addr b v u is j =
     let k = subst (λ (x : ReplyVerdict). Judges rule t core (Fetch addr) Bus x u) is j in k.1.1.0
@@ -89,7 +91,8 @@ pub was_shown : (t : Plain) (bytes : ℕ → Bytes) (o : Option PageInfo) (info 
 was_shown t bytes o info addr was at is w =
     subst (λ (e : Option PageEntry). IsWas e (offset_of addr) was) (sym (at ∙ ap (entry_kept bytes) is)) w
 
-pub was_loaded : (t : Plain) (bytes : ℕ → Bytes) (o : Option PageInfo) (info : PageInfo) (addr : ℕ) (byte : Option ℕ) → t.entry (page_of addr) ≡ entry_kept bytes o
+pub was_loaded : (t : Plain) (bytes : ℕ → Bytes) (o : Option PageInfo) (info : PageInfo) (addr : ℕ) (byte : Option ℕ)
+    → t.entry (page_of addr) ≡ entry_kept bytes o
     → o ≡ Some info → HasOwn bytes info → IfSome byte (λ b. access_reply t addr By.Load ≡ Some (Byte b))
     → IsWas (t.entry (page_of addr)) (offset_of addr) (Own info.meta.prot byte)
 was_loaded t bytes o info addr byte at is h found =
@@ -100,7 +103,8 @@ was_loaded t bytes o info addr byte at is h found =
     known None f = tt
     known (Some b) f = load_byte t addr b info.meta.back info.meta.prot h.0 (own_entry bytes o info (t.entry (page_of addr)) at is h) f
 
-pub was_fetched : (t : Plain) (bytes : ℕ → Bytes) (o : Option PageInfo) (info : PageInfo) (addr : ℕ) (byte : Option ℕ) → t.entry (page_of addr) ≡ entry_kept bytes o
+pub was_fetched : (t : Plain) (bytes : ℕ → Bytes) (o : Option PageInfo) (info : PageInfo) (addr : ℕ) (byte : Option ℕ)
+    → t.entry (page_of addr) ≡ entry_kept bytes o
     → o ≡ Some info → HasOwn bytes info → IfSome byte (λ b. access_reply t addr By.Fetch ≡ Some (Byte b))
     → IsWas (t.entry (page_of addr)) (offset_of addr) (Own info.meta.prot byte)
 was_fetched t bytes o info addr byte at is h found =

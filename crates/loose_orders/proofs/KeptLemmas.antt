@@ -1,5 +1,6 @@
 -- What is kept, one after another
-use Rattle.slot_lock.proofs.Words.{◌≡◌, ◌≢◌, ◌==◌, ◌∙◌, ℕ, ◌+◌, ◌<◌, ◌≤◌, Bool, true, false, List, [], ◌∷◌, ◌++◌, ap, drop, get_or, length, map, not, refl, set, subst, suc, sym, take, take_all, zero, eq_false, arith}
+use Rattle.slot_lock.proofs.Words.{◌≡◌, ◌≢◌, ◌==◌, ◌∙◌, ℕ, ◌+◌, ◌<◌, ◌≤◌, Bool, true, false, List, [], ◌∷◌, ◌++◌, ap, drop, get_or, length, map, not}
+use Rattle.slot_lock.proofs.Words.{refl, set, subst, suc, sym, take, take_all, zero, eq_false, arith}
 use Rattle.std.proofs.Common.{append-nil}
 use Rattle.std.proofs.lemmas.List.{drop_all}
 use Rattle.std.specs.List.{filter}
@@ -52,4 +53,5 @@ mapped_on {X} f xs now at d v l is made =
 
 pub all_mapped : {X : Type 0} (f : X → X) (xs now : List X) (at : ℕ) → length xs ≤ at → now ≡ map f (take at xs) ++ drop at xs → now ≡ map f xs
 all_mapped {X} f xs now at past is =
-    is ∙ (ap (λ (ys : List X). map f ys ++ drop at xs) (take_all at xs past) ∙ (ap (λ (ys : List X). map f xs ++ ys) (drop_all at xs past) ∙ append-nil (map f xs)))
+    is ∙ (ap (λ (ys : List X). map f ys ++ drop at xs) (take_all at xs past) ∙ (ap (λ (ys : List X). map f xs ++ ys)
+    (drop_all at xs past) ∙ append-nil (map f xs)))

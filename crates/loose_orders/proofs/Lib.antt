@@ -9,5 +9,6 @@ pub mod BetweenLemmas
 pub mod BehindLemmas
 pub mod KernelLemmas
 pub mod MoveLemmas
-pub mod AtomicLemmas
-mod Examples
+pub mod PartLemmas
+pub mod TakenLemmas
+pub mod TimelyLemmas

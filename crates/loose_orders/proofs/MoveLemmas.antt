@@ -1,5 +1,6 @@
 -- Moves, and what is kept behind them
-use Rattle.slot_lock.proofs.Words.{◌≡◌, ◌+◌, ◌*◌, ◌<◌, ◌≤◌, ℕ, suc, Bool, true, false, List, [], ◌∷◌, ◌++◌, Option, None, Some, IfSome, ap, length, refl, subst, sym, take, take_all, take_more, put, put_other, get_or, arith}
+use Rattle.slot_lock.proofs.Words.{◌≡◌, ◌+◌, ◌*◌, ◌<◌, ◌≤◌, ℕ, suc, Bool, true, false, List, [], ◌∷◌, ◌++◌, Option, None, Some, IfSome, ap, length}
+use Rattle.slot_lock.proofs.Words.{refl, subst, sym, take, take_all, take_more, put, put_other, get_or, arith}
 use Rattle.std.proofs.Common.{◌⊎◌, inl, inr, slice_get}
 use Rattle.slot_lock.proofs.Words.{PageEntry, Plain, Prot, Request, Reply, Done, Refused}
 use Rattle.std.proofs.lemmas.List.{length-take-le}
@@ -21,46 +22,50 @@ use Rattle.loose_orders.specs.declared.keeping.Kept.{Kept}
 use Rattle.loose_orders.specs.declared.moves.Move.{Move}
 use Rattle.loose_orders.specs.declared.moves.Move.TheVariants as MoveOf
 use Rattle.loose_orders.specs.Kept.{AllKept, IsKept, IsWas, Olds}
-use Rattle.loose_orders.specs.Kernel.{ByOldRights, FindsGone, GoesOn, IsLateTo, IsReady, IsUnseen, LeadAll, Leads, MayLag, call_of, gone, protected}
+use Rattle.loose_orders.specs.Kernel.{ByOldRights, FindsGone, GoesOn, HasRights, IsLateTo, IsReady, IsUnseen, LeadAll, Leads, MayLag, call_of}
+use Rattle.loose_orders.specs.Kernel.{changed, gone, protected}
 use Rattle.loose_orders.specs.Loose.{Loose, begun, page_accessed, replaced}
 use Rattle.loose_orders.proofs.StepLemmas.{Forgets}
-use Rattle.loose_orders.specs.Moved.{ChangesFront, CopiesOld, GoesBehind, GoesByRights, HadRights, HasRights, Lags, MovesOn}
+use Rattle.loose_orders.specs.Moved.{ChangesFront, CopiesOld, GoesBehind, GoesByRights, HadRights, Lags, MovesOn}
 
 -- ---- by old rights
 
 abbrev pub Protected : Bool → Plain → ℕ → ℕ → Prot → Plain → Type 0
 Protected any t core page prot u = RepliesBy (rule_of any) t core (Mprotect (page * 4096) 4096 prot) Done u
 
-by_old : (any : Bool) (s : Loose) (of page core : ℕ) (old new : Prot) (t m n u : Plain) → s.plain ≡ t → HadRights s.old of page old
-    → Protected any t core page old m → Protected any n core page new u
+by_old : (any : Bool) (s : Loose) (of page core : ℕ) (old new : Prot) (t m n u : Plain) → s.plain ≡ t → HasRights (t.entry page) new
+    → HadRights s.old of page old → Protected any t core page old m → Protected any n core page new u
     → ByOldRights (rule_of any) s of page core new m n (record { plain = u; old = s.old })
-by_old any s of page core old new t m n u at (None, is, has) there back = absurd has
-by_old any s of page core old new t m n u at (Some e, is, has) there back = record {
+by_old any s of page core old new t m n u at now (None, is, has) there back = absurd has
+by_old any s of page core old new t m n u at now (Some e, is, has) there back = record {
   entry = e;
   is_old = is;
+  has_new = subst (λ (p : Plain). HasRights (p.entry page) new) (sym at) now;
   to_old = subst (λ (p : Plain). Protected any p core page e.prot m) (sym at) (subst (λ (q : Prot). Protected any t core page q m) (sym has) there);
   to_new = back;
   old = refl;
 }
 
-pub lags_by : (any two three : Bool) (of page : ℕ) (unseen : Bool) (t m again n u : Plain) (kept : List Kept) (old new : Prot) (c : Call) → two ≡ any → three ≡ any
-    → again ≡ m → ((o : Olds) → AllKept o kept → HadRights o of page old) → Protected any t c.core page old m
+pub lags_by : (any two three : Bool) (of page : ℕ) (unseen : Bool) (t m again n u : Plain) (kept : List Kept) (old new : Prot) (c : Call) → two ≡ any
+    → three ≡ any
+    → again ≡ m → HasRights (t.entry page) new → ((o : Olds) → AllKept o kept → HadRights o of page old) → Protected any t c.core page old m
     → (unseen ≡ false → IsReady m c.request) → RepliesBy (rule_of two) again c.core c.request c.reply n → Protected three n c.core page new u
     → Lags (rule_of any) of page unseen t kept u new c
-lags_by any two three of page unseen t m again n u kept old new c e f same had there ready goes back s at all = (
+lags_by any two three of page unseen t m again n u kept old new c e f same now had there ready goes back s at all = (
   m,
   n,
-  by_old any s of page c.core old new t m n u at (had s.old all) there (subst (λ (b : Bool). Protected b n c.core page new u) f back),
+  by_old any s of page c.core old new t m n u at now (had s.old all) there (subst (λ (b : Bool). Protected b n c.core page new u) f back),
   subst (λ (b : Bool). RepliesBy (rule_of b) m c.core c.request c.reply n) e
       (subst (λ (p : Plain). RepliesBy (rule_of two) p c.core c.request c.reply n) same goes),
   ready,
 )
 
 pub copies_by : (any three : Bool) (of page : ℕ) (t m n u : Plain) (kept : List Kept) (old new : Prot) (c : Call) → three ≡ any
-    → ((o : Olds) → AllKept o kept → HadRights o of page old) → Protected any t c.core page old m → CopiesFor m c.request n → Protected three n c.core page new u
+    → HasRights (t.entry page) new → ((o : Olds) → AllKept o kept → HadRights o of page old) → Protected any t c.core page old m
+    → CopiesFor m c.request n → Protected three n c.core page new u
     → CopiesOld (rule_of any) of page t kept u new c
-copies_by any three of page t m n u kept old new c f had there goes back s at all =
-    (m, n, by_old any s of page c.core old new t m n u at (had s.old all) there (subst (λ (b : Bool). Protected b n c.core page new u) f back), goes)
+copies_by any three of page t m n u kept old new c f now had there goes back s at all =
+    (m, n, by_old any s of page c.core old new t m n u at now (had s.old all) there (subst (λ (b : Bool). Protected b n c.core page new u) f back), goes)
 
 pub had_rights : (old : Olds) (of page : ℕ) (k : Kept) (o : Option Prot) → IsKept old k → k.call ≡ of → k.page ≡ page
     → ((entry : Option PageEntry) (i : ℕ) → IsWas entry i k.was → IfSome o (HasRights entry)) → IfSome o (HadRights old of page)
@@ -74,43 +79,48 @@ had_rights old of page k (Some prot) kk c p f = (
 -- ---- late moves
 
 abbrev late_to : (h : List Timed) (moves : List Move) (a k of page : ℕ) (c change : Timed) (one : Move) → slice_get moves a ≡ Some one → of ≡ call_of one
-    → slice_get h of ≡ Some change → page_accessed c.call.request ≡ Some page → GoesOn h moves a k change → IsLateTo h moves a k page change c
-late_to h moves a k of page c change one at e is accesses on = record {
+    → slice_get h of ≡ Some change → has (changed change.call.request change.call.reply) page ≡ true → page_accessed c.call.request ≡ Some page
+    → GoesOn h moves a k change → IsLateTo h moves a k page change c
+late_to h moves a k of page c change one at e is within accesses on = record {
   at = record { move = one; at = at; call = subst (λ (x : ℕ). slice_get h x ≡ Some change) e is };
   goes_on = on;
+  within = within;
   accesses = accesses;
 }
 
 pub gone_on : (any moving : Bool) (h : List Timed) (moves : List Move) (k i a of page addr len : ℕ) (c change : Timed) (one : Move) (t u : Plain)
     (kept new : List Kept) → slice_get h i ≡ Some c → slice_get moves a ≡ Some one → of ≡ call_of one → slice_get h of ≡ Some change
-    → page_accessed c.call.request ≡ Some page → GoesOn h moves a k change → change.call.request ≡ Munmap addr len
+    → has (changed change.call.request change.call.reply) page ≡ true → page_accessed c.call.request ≡ Some page → GoesOn h moves a k change
+    → change.call.request ≡ Munmap addr len
     → ((r : Request) → MayLag moving h moves a k page r c.call) → GoesBehind of page t kept u new c.call
     → MovesOn (rule_of any) moving h moves k t kept (MoveOf.Late i a) u new
-gone_on any moving h moves k i a of page addr len c change one t u kept new is at e has accesses on unmaps lag goes s same all =
+gone_on any moving h moves k i a of page addr len c change one t u kept new is at e has_it within accesses on unmaps lag goes s same all =
     let g = goes any s same all in (
       g.0,
       (
         c,
         is,
-        gone page addr len change (late_to h moves a k of page c change one at e has accesses on) unmaps (lag change.call.request)
+        gone page addr len change (late_to h moves a k of page c change one at e has_it within accesses on) unmaps (lag change.call.request)
             (subst (λ (x : ℕ). FindsGone (rule_of any) s x page c.call g.0) e g.1),
       ),
       g.2,
       g.3,
     )
 
-pub rights_on : (any moving : Bool) (h : List Timed) (moves : List Move) (k i a of page addr len : ℕ) (prot : Prot) (c change : Timed) (one : Move) (t u : Plain)
+pub rights_on : (any moving : Bool) (h : List Timed) (moves : List Move) (k i a of page addr len : ℕ) (prot : Prot) (c change : Timed) (one : Move)
+    (t u : Plain)
     (kept : List Kept) → slice_get h i ≡ Some c → slice_get moves a ≡ Some one → of ≡ call_of one → slice_get h of ≡ Some change
-    → page_accessed c.call.request ≡ Some page → GoesOn h moves a k change → change.call.request ≡ Mprotect addr len prot
+    → has (changed change.call.request change.call.reply) page ≡ true → page_accessed c.call.request ≡ Some page → GoesOn h moves a k change
+    → change.call.request ≡ Mprotect addr len prot
     → GoesByRights (rule_of any) moving h moves a k of page t kept u prot c.call
     → MovesOn (rule_of any) moving h moves k t kept (MoveOf.Late i a) u kept
-rights_on any moving h moves k i a of page addr len prot c change one t u kept is at e has accesses on protects g s same all =
+rights_on any moving h moves k i a of page addr len prot c change one t u kept is at e has_it within accesses on protects g s same all =
     let l = g.3 s same all in (
       record { plain = u; old = s.old },
       (
         c,
         is,
-        protected page addr len prot change l.0 l.1 (late_to h moves a k of page c change one at e has accesses on) protects
+        protected page addr len prot change l.0 l.1 (late_to h moves a k of page c change one at e has_it within accesses on) protects
             (which g.0 g.1 (g.2 change.call.request) l.4)
             (subst (λ (x : ℕ). ByOldRights (rule_of any) s x page c.call.core prot l.0 l.1 (record { plain = u; old = s.old })) e l.2) l.3,
       ),
@@ -124,9 +134,10 @@ rights_on any moving h moves k i a of page addr len prot c change one t u kept i
 
 pub copy_on : (any moving : Bool) (h : List Timed) (moves : List Move) (k i a of page addr len : ℕ) (prot : Prot) (c change : Timed) (one : Move) (t u : Plain)
     (kept : List Kept) → slice_get h i ≡ Some c → slice_get moves a ≡ Some one → of ≡ call_of one → slice_get h of ≡ Some change
-    → page_accessed c.call.request ≡ Some page → GoesOn h moves a k change → IsUnseen h moves a k page → change.call.request ≡ Mprotect addr len prot
+    → has (changed change.call.request change.call.reply) page ≡ true → page_accessed c.call.request ≡ Some page → GoesOn h moves a k change
+    → IsUnseen h moves a k page → change.call.request ≡ Mprotect addr len prot
     → CopiesOld (rule_of any) of page t kept u prot c.call → MovesOn (rule_of any) moving h moves k t kept (MoveOf.LateCopy i a) u kept
-copy_on any moving h moves k i a of page addr len prot c change one t u kept is at e has accesses on unseen protects g s same all =
+copy_on any moving h moves k i a of page addr len prot c change one t u kept is at e has_it within accesses on unseen protects g s same all =
     let l = g s same all in (
       record { plain = u; old = s.old },
       (
@@ -140,7 +151,7 @@ copy_on any moving h moves k i a of page addr len prot c change one t u kept is 
           change = change;
           before = l.0;
           after = l.1;
-          late = late_to h moves a k of page c change one at e has accesses on;
+          late = late_to h moves a k of page c change one at e has_it within accesses on;
           protects = protects;
           unseen = unseen;
           rights = subst (λ (x : ℕ). ByOldRights (rule_of any) s x page c.call.core prot l.0 l.1 (record { plain = u; old = s.old })) e l.2;
@@ -167,7 +178,8 @@ refused_same rule t core addr len prot e u r = refused_by rule (refusal (λ k. m
 
 pub front_by : (any two : Bool) (t m u : Plain) (core addr len : ℕ) (prot : Prot) (e : Errno) (count page : ℕ) → two ≡ any
     → are_pages (pages_of addr len) ≡ true → has (pages_of addr len) page ≡ true
-    → RepliesBy (rule_of any) t core (Mprotect (page * 4096) 4096 prot) (Refused e) m → RepliesBy (rule_of two) m core (Mprotect addr (count * 4096) prot) Done u
+    → RepliesBy (rule_of any) t core (Mprotect (page * 4096) 4096 prot) (Refused e) m
+    → RepliesBy (rule_of two) m core (Mprotect addr (count * 4096) prot) Done u
     → ChangesFront (rule_of any) t core addr len prot e count page u
 front_by any two t m u core addr len prot e count page f valid within refused goes =
     let same : m ≡ t = refused_same (rule_of any) t core (page * 4096) 4096 prot e m refused in (
@@ -216,7 +228,8 @@ pub record IsMoved (rule : PlaceRule) (moving : Bool) (h : List Timed) (all : Li
   pub all_kept : AllKept state.old kept
   pub lead : LeadAll rule moving h all 0 (begun first) moves state
 
-pub none_moved : (rule : PlaceRule) (moving : Bool) (h : List Timed) (all : List Move) (t : Plain) (moves : List Move) (kept : List Kept) → moves ≡ [] → kept ≡ []
+pub none_moved : (rule : PlaceRule) (moving : Bool) (h : List Timed) (all : List Move) (t : Plain) (moves : List Move) (kept : List Kept) → moves ≡ []
+    → kept ≡ []
     → IsMoved rule moving h all t moves t kept
 none_moved rule moving h all t moves kept e f = record {
   state = begun t;

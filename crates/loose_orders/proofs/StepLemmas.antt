@@ -1,8 +1,9 @@
--- Steps, and what is kept behind them
-use Rattle.slot_lock.proofs.Words.{◌≡◌, ◌≢◌, ◌∙◌, ℕ, ◌+◌, ◌<◌, ◌≤◌, Bool, true, cond, List, [], ◌∷◌, ◌++◌, Option, None, Some, IfSome, ap, length, refl, subst, sym, take, take_all, take_more, put, put_same, put_other, get_or}
+-- What takes effect, and what is kept behind it
+use Rattle.slot_lock.proofs.Words.{◌≡◌, ◌≢◌, ◌∙◌, ℕ, ◌+◌, Bool, true, cond, List, [], ◌∷◌, ◌++◌, Option, None, Some, IfSome, ap, refl, subst, sym}
+use Rattle.slot_lock.proofs.Words.{put, put_same, put_other}
 use Rattle.slot_lock.proofs.Words.{PageEntry, Plain}
 use Rattle.std.proofs.Common.{slice_get}
-use Rattle.std.proofs.lemmas.List.Elements.{All-nil, All-push}
+use Rattle.std.proofs.lemmas.List.Elements.{All-push}
 use Rattle.vm_base.specs.Log.{RepliesBy}
 use Rattle.vm_base.specs.Pages.{is_page, offset_of, page_of}
 use Rattle.vm_base.specs.Places.{PlaceRule}
@@ -11,12 +12,9 @@ use Rattle.orders.specs.declared.history.Timed.{Timed}
 use Rattle.orders.specs.Orders.{CopiesFor}
 use Rattle.loose_orders.specs.declared.keeping.Kept.{Kept}
 use Rattle.loose_orders.specs.declared.keeping.Was.{Was}
-use Rattle.loose_orders.specs.declared.steps.Step.{Step}
-use Rattle.loose_orders.specs.declared.steps.Step.TheVariants as StepOf
-use Rattle.loose_orders.specs.Following.{StepsOn}
 use Rattle.loose_orders.specs.Kept.{AllKept, HasReplaced, IsKept, IsWas, Olds}
-use Rattle.loose_orders.specs.Late.{GoesOn}
-use Rattle.loose_orders.specs.Loose.{LeadAll, Leads, Loose, begun, replaced, replaces}
+use Rattle.loose_orders.specs.Moved.{CopiesOn, TakesOn}
+use Rattle.loose_orders.specs.Loose.{replaced, replaces}
 
 -- ---- what is noted and forgotten
 
@@ -35,7 +33,8 @@ noted h call c t kept page offset was is r valid w old has all =
     (record { valid = valid; entry = t.entry page; is_old = has c is page r; was = w })
 
 -- what is found of an entry is noted
-pub noted_found : (h : List Timed) (call : ℕ) (c : Timed) (t : Plain) (kept more : List Kept) (addr at page offset : ℕ) (is : Bool) (found : Option Was) (was : Was)
+pub noted_found : (h : List Timed) (call : ℕ) (c : Timed) (t : Plain) (kept more : List Kept) (addr at page offset : ℕ) (is : Bool)
+    (found : Option Was) (was : Was)
     → slice_get h call ≡ Some c → at ≡ page_of addr → page ≡ page_of addr → offset ≡ offset_of addr → is ≡ replaces c.call.request c.call.reply at → is ≡ true
     → found ≡ Some was → IfSome found (λ w. is_page (page_of addr) ≡ true) → IfSome found (IsWas (t.entry (page_of addr)) (offset_of addr))
     → more ≡ kept ++ record { call = call; page = page; offset = offset; was = was } ∷ [] → Notes h call t kept more
@@ -53,7 +52,7 @@ others old call f other page ne = ap (λ (g : ℕ → Option (Option PageEntry))
 
 pub replies_on : (rule : PlaceRule) (h : List Timed) (t u : Plain) (call : ℕ) (kept left more : List Kept) → Forgets call kept left → Notes h call t left more
     → (c : Timed) → slice_get h call ≡ Some c → RepliesBy rule t c.call.core c.call.request c.call.reply u
-    → StepsOn rule h t kept (StepOf.Reply call) u more
+    → TakesOn rule h t kept call u more
 replies_on rule h t u call kept left more f n c is by s e all =
     let new : Olds = put s.old call (replaced s.plain c.call) in
     let r : RepliesBy rule s.plain c.call.core c.call.request c.call.reply u =
@@ -76,67 +75,14 @@ replies_on rule h t u call kept left more f n c is by s e all =
 -- the same behind what was noted, by the auditor's rule there
 pub replies_from : (any now : Bool) (h : List Timed) (t m u : Plain) (call : ℕ) (kept left more : List Kept) → now ≡ any → m ≡ t → Forgets call kept left
     → Notes h call t left more → (c : Timed) → slice_get h call ≡ Some c → RepliesBy (rule_of now) m c.call.core c.call.request c.call.reply u
-    → StepsOn (rule_of any) h t kept (StepOf.Reply call) u more
+    → TakesOn (rule_of any) h t kept call u more
 replies_from any now h t m u call kept left more same at f n c is by =
     replies_on (rule_of any) h t u call kept left more f n c is
     (subst (λ (p : Plain). RepliesBy (rule_of any) p c.call.core c.call.request c.call.reply u) at
     (subst (λ (b : Bool). RepliesBy (rule_of b) m c.call.core c.call.request c.call.reply u) same by))
 
-pub copies_on : (rule : PlaceRule) (h : List Timed) (t u : Plain) (call : ℕ) (kept : List Kept)
-    → (c : Timed) → slice_get h call ≡ Some c → CopiesFor t c.call.request u → StepsOn rule h t kept (StepOf.Copy call) u kept
-copies_on rule h t u call kept c is by s e all =
+pub copies_on : (h : List Timed) (t u : Plain) (call : ℕ) (kept : List Kept)
+    → (c : Timed) → slice_get h call ≡ Some c → CopiesFor t c.call.request u → CopiesOn h t kept call u kept
+copies_on h t u call kept c is by s e all =
     let r : CopiesFor s.plain c.call.request u = subst (λ (p : Plain). CopiesFor p c.call.request u) (sym e) by in
     (record { plain = u; old = s.old }, (c, is, r, refl), refl, all)
-
-pub ends_on : (rule : PlaceRule) (h : List Timed) (t : Plain) (call : ℕ) (kept left : List Kept) → Forgets call kept left
-    → StepsOn rule h t kept (StepOf.End call) t left
-ends_on rule h t call kept left f s e all = (
-  record { plain = s.plain; old = put s.old call (λ page. None) },
-  (refl, refl),
-  e,
-  f s.old (put s.old call (λ page. None)) (others s.old call (λ page. None)) all,
-)
-
-pub late_on : (any_place : Bool) (h : List Timed) (t u : Plain) (call : ℕ) (c : Timed) (kept new : List Kept) → slice_get h call ≡ Some c
-    → GoesOn t kept u new c.call → StepsOn (rule_of any_place) h t kept (StepOf.Late call) u new
-late_on any_place h t u call c kept new is g s e all = let r = g any_place s e all in (r.0, (c, is, r.1), r.2, r.3)
-
--- ---- all steps
-
--- the steps lead to a state with this plain map, of which this is kept
-pub record IsLed (rule : PlaceRule) (h : List Timed) (first : Plain) (steps : List Step) (t : Plain) (kept : List Kept) : Type 0 where
-  pub state : Loose
-  pub plain : state.plain ≡ t
-  pub all_kept : AllKept state.old kept
-  pub lead : LeadAll rule h (begun first) steps state
-
-pub none_led : (rule : PlaceRule) (h : List Timed) (t : Plain) (steps : List Step) (kept : List Kept) → steps ≡ [] → kept ≡ [] → IsLed rule h t steps t kept
-none_led rule h t steps kept e f = record {
-  state = begun t;
-  plain = refl;
-  all_kept = subst (AllKept (begun t).old) (sym f) (All-nil (IsKept (begun t).old));
-  lead = subst (λ (xs : List Step). LeadAll rule h (begun t) xs (begun t)) (sym e) refl;
-}
-
-leads_push : (rule : PlaceRule) (h : List Timed) (s m u : Loose) (steps : List Step) (step : Step) → LeadAll rule h s steps m → Leads rule h m step u
-    → LeadAll rule h s (steps ++ step ∷ []) u
-leads_push rule h s m u [] step a b = (u, subst (λ x. Leads rule h x step u) a b, refl)
-leads_push rule h s m u (d ∷ ds) step a b = (a.0, a.1, leads_push rule h a.0 m u ds step a.2 b)
-
-pub led_on : (any now : Bool) (h : List Timed) (first t u : Plain) (kept new : List Kept) (steps : List Step) (at : ℕ) (d : Step) → now ≡ any
-    → at < length steps → IsLed (rule_of any) h first (take at steps) t kept → StepsOn (rule_of now) h t kept (get_or steps at d) u new
-    → IsLed (rule_of any) h first (take (at + 1) steps) u new
-led_on any now h first t u kept new steps at d same less led on =
-    let r = subst (λ (x : Bool). StepsOn (rule_of x) h t kept (get_or steps at d) u new) same on led.state led.plain led.all_kept in
-    record {
-      state = r.0;
-      plain = r.2;
-      all_kept = r.3;
-      lead = subst (λ xs. LeadAll (rule_of any) h (begun first) xs r.0) (sym (take_more steps at d less))
-          (leads_push (rule_of any) h (begun first) led.state r.0 (take at steps) (get_or steps at d) led.lead r.1);
-    }
-
-pub all_led : (rule : PlaceRule) (h : List Timed) (first t : Plain) (kept : List Kept) (steps : List Step) (at : ℕ) → length steps ≤ at
-    → IsLed rule h first (take at steps) t kept → (last : Loose) × LeadAll rule h (begun first) steps last
-all_led rule h first t kept steps at end led =
-    (led.state, subst (λ xs. LeadAll rule h (begun first) xs led.state) (take_all at steps end) led.lead)

@@ -24,10 +24,9 @@ use Rattle.orders.specs.declared.history.Item.{Item}
 use Rattle.orders.specs.declared.history.Item.TheVariants as Of
 use Rattle.orders.specs.declared.history.Timed.{Timed}
 use Rattle.orders.specs.Orders.{CopiesFor, EachOnce, KeepsTime, Precedes}
-use Rattle.loose_orders.specs.Loose.{Leads as LeadsLoosely, Loose, begun, page_accessed, replaced, with_entry}
+use Rattle.loose_orders.specs.Loose.{GetsCopy, Loose, TakesEffect, begun, page_accessed, replaced, with_entry}
 use Rattle.loose_orders.specs.declared.moves.Move.{Move}
 use Rattle.loose_orders.specs.declared.moves.Move.TheVariants.{Reply as Replied, Late, Part, Copy, LateCopy}
-use Rattle.loose_orders.specs.declared.steps.Step.TheVariants as StepOf
 
 -- ---- places of an order
 
@@ -148,10 +147,16 @@ pub record FindsGone (rule : PlaceRule) (s : Loose) (i page : ℕ) (c : Call) (u
   pub plain : u.plain ≡ with_entry after page (s.plain.entry page)
   pub old : u.old ≡ put s.old i (put (s.old i) page (Some (after.entry page)))
 
--- Behind mprotect the page has its old rights for that moment: as by one mprotect before and one after.
+-- the entry is of a mapped page with these rights
+abbrev pub HasRights : Option PageEntry → Prot → Type 0
+HasRights None prot = ⊥
+HasRights (Some e) prot = e.prot ≡ prot
+
+-- Behind mprotect the page has its old rights for that moment: as by one mprotect before, and one after that gives back those that it had.
 pub record ByOldRights (rule : PlaceRule) (s : Loose) (i page core : ℕ) (new : Prot) (m n : Plain) (u : Loose) : Type 0 where
   pub entry : PageEntry
   pub is_old : s.old i page ≡ Some (Some entry)
+  pub has_new : HasRights (s.plain.entry page) new
   pub to_old : RepliesBy rule s.plain core (Mprotect (page * 4096) 4096 entry.prot) Done m
   pub to_new : RepliesBy rule n core (Mprotect (page * 4096) 4096 new) Done u.plain
   pub old : u.old ≡ s.old
@@ -160,10 +165,11 @@ pub record ByOldRights (rule : PlaceRule) (s : Loose) (i page core : ℕ) (new :
 abbrev pub IsReady : Plain → Request → Type 0
 IsReady t request = (v : Plain) → ¬ CopiesFor t request v
 
--- the change at place a, which goes on at place k, where this access of a page comes
+-- the change at place a, which goes on at place k, where this access of one of its pages comes
 pub record IsLateTo (h : List Timed) (moves : List Move) (a k page : ℕ) (change : Timed) (c : Timed) : Type 0 where
   pub at : IsAt h moves a change
   pub goes_on : GoesOn h moves a k change
+  pub within : has (changed change.call.request change.call.reply) page ≡ true
   pub accesses : page_accessed c.call.request ≡ Some page
 
 -- a late access
@@ -212,10 +218,10 @@ pub record ChangesPart (rule : PlaceRule) (s : Loose) (i : ℕ) (c : Call) (coun
 
 -- the move at place k leads from one state to another
 abbrev pub Leads : PlaceRule → Bool → List Timed → List Move → ℕ → Loose → Move → Loose → Type 0
-Leads rule moving h moves k s (Replied i) u = LeadsLoosely rule h s (StepOf.Reply i) u
+Leads rule moving h moves k s (Replied i) u = TakesEffect rule h s i u
 Leads rule moving h moves k s (Late i a) u = (c : Timed) × (slice_get h i ≡ Some c) × GoesLate rule moving h moves a k s c u
 Leads rule moving h moves k s (Part i n p) u = (c : Timed) × (slice_get h i ≡ Some c) × ChangesPart rule s i c.call n p u
-Leads rule moving h moves k s (Copy i) u = LeadsLoosely rule h s (StepOf.Copy i) u
+Leads rule moving h moves k s (Copy i) u = GetsCopy h s i u
 Leads rule moving h moves k s (LateCopy i a) u = (c : Timed) × (slice_get h i ≡ Some c) × CopiesLate rule h moves a k s c u
 
 -- those from place k on do, one after another

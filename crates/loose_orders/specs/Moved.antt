@@ -1,5 +1,5 @@
 -- Where moves lead, as far as it is kept
-use Rattle.std.specs.Prelude.{◌≡◌, ℕ, ◌*◌, Bool, true, false, List, Option, None, Some}
+use Rattle.std.specs.Prelude.{◌≡◌, ℕ, ◌*◌, Bool, true, false, List, Option, Some}
 use Rattle.vm_base.specs.declared.replies.Errno.{Errno}
 use Rattle.vm_base.specs.declared.replies.Reply.TheVariants.{Done, Refused}
 use Rattle.vm_base.specs.declared.requests.Request.{Request}
@@ -17,8 +17,18 @@ use Rattle.orders.specs.Orders.{CopiesFor}
 use Rattle.loose_orders.specs.declared.keeping.Kept.{Kept}
 use Rattle.loose_orders.specs.declared.moves.Move.{Move}
 use Rattle.loose_orders.specs.Kept.{AllKept}
-use Rattle.loose_orders.specs.Kernel.{ByOldRights, FindsGone, IsReady, IsUnseen, Leads, MayLag}
-use Rattle.loose_orders.specs.Loose.{Loose}
+use Rattle.loose_orders.specs.Kernel.{ByOldRights, FindsGone, HasRights, IsReady, IsUnseen, Leads, MayLag}
+use Rattle.loose_orders.specs.Loose.{GetsCopy, Loose, TakesEffect}
+
+-- From each state with the plain map t of which the one is kept, the call takes effect, and leads on to one with the plain map u of which the
+-- other is.
+abbrev pub TakesOn : PlaceRule → List Timed → Plain → List Kept → ℕ → Plain → List Kept → Type 0
+TakesOn rule h t old i u new = (s : Loose) → s.plain ≡ t → AllKept s.old old
+    → (m : Loose) × TakesEffect rule h s i m × (m.plain ≡ u) × AllKept m.old new
+
+-- the same of a copy
+abbrev pub CopiesOn : List Timed → Plain → List Kept → ℕ → Plain → List Kept → Type 0
+CopiesOn h t old i u new = (s : Loose) → s.plain ≡ t → AllKept s.old old → (m : Loose) × GetsCopy h s i m × (m.plain ≡ u) × AllKept m.old new
 
 -- From each state with the plain map t of which the one is kept, the call finds what this one has unmapped on the page, and leads on to a state
 -- with the plain map u of which the other is.
@@ -32,11 +42,6 @@ MovesOn rule moving h moves k t old move u new = (s : Loose) → s.plain ≡ t �
     → (m : Loose) × Leads rule moving h moves k s move m × (m.plain ≡ u) × AllKept m.old new
 
 -- ---- by old rights
-
--- the entry is of a mapped page with these rights
-abbrev pub HasRights : Option PageEntry → Prot → Type 0
-HasRights None prot = ⊥
-HasRights (Some e) prot = e.prot ≡ prot
 
 -- a call has replaced these rights on the page
 abbrev pub HadRights : (ℕ → ℕ → Option (Option PageEntry)) → ℕ → ℕ → Prot → Type 0

@@ -70,7 +70,8 @@ fn loads<M: SlotMap, A: Allocator>(
     addr: u64,
 ) -> bool
     requires { call.request ≡ RequestOf.Load addr }
-    ensures { result ≡ true → GoesBehind of (page_of addr) (plain_of auditor.now) kept.now (plain_of auditor.now) kept.now call }
+    ensures { result ≡ true
+        → GoesBehind of (page_of addr) (plain_of auditor.now) kept.now (plain_of auditor.now) kept.now call }
 {
     match matching_of(auditor, kept, of, addr, Access::Load, call.reply) {
         Some(_one) => true,
@@ -87,7 +88,8 @@ fn fetches<M: SlotMap, A: Allocator>(
     addr: u64,
 ) -> bool
     requires { call.request ≡ RequestOf.Fetch addr }
-    ensures { result ≡ true → GoesBehind of (page_of addr) (plain_of auditor.now) kept.now (plain_of auditor.now) kept.now call }
+    ensures { result ≡ true
+        → GoesBehind of (page_of addr) (plain_of auditor.now) kept.now (plain_of auditor.now) kept.now call }
 {
     match matching_of(auditor, kept, of, addr, Access::Fetch, call.reply) {
         Some(_one) => true,
@@ -95,8 +97,8 @@ fn fetches<M: SlotMap, A: Allocator>(
     }
 }
 
-/// Lets a store be done to what a call has unmapped, with this of what is kept: to the file, as it is now, if the page was a shared file's,
-/// and else to what is kept.
+/// Lets a store be done to what a call has unmapped, with this of what is kept: to the file, as it is now, if the page
+/// was a shared file's, and else to what is kept.
 fn store_behind<M: SlotMap, A: Allocator>(
     auditor: &mut Auditor<M, A>,
     kept: &mut Vec<Kept, A>,
@@ -111,7 +113,8 @@ fn store_behind<M: SlotMap, A: Allocator>(
     requires page { one.page ≡ page_of addr }
     requires offset { one.offset ≡ offset_of addr }
     requires due { FindsDue (plain_of auditor.old).file (offset_of addr) one.was By.Store ReplyOf.Done }
-    ensures ok { OnOk result (GoesBehind one.call (page_of addr) (plain_of auditor.old) kept.old.items (plain_of auditor.new) kept.new.items call) }
+    ensures ok { OnOk result (GoesBehind one.call (page_of addr) (plain_of auditor.old) kept.old.items
+        (plain_of auditor.new) kept.new.items call) }
     ensures any_place { auditor.new.any_place ≡ auditor.old.any_place }
 {
     match one.was {
@@ -139,7 +142,9 @@ fn stores<M: SlotMap, A: Allocator>(
 ) -> Result<bool, NoMemory>
     requires request { call.request ≡ RequestOf.Store addr byte }
     requires done { call.reply ≡ ReplyOf.Done }
-    ensures yes { result ≡ Ok true → GoesBehind of (page_of addr) (plain_of auditor.old) kept.old.items (plain_of auditor.new) kept.new.items call }
+    ensures yes { result ≡ Ok true
+        → GoesBehind of (page_of addr) (plain_of auditor.old) kept.old.items (plain_of auditor.new)
+        kept.new.items call }
     ensures any_place { auditor.new.any_place ≡ auditor.old.any_place }
 {
     match matching_of(

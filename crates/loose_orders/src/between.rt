@@ -6,6 +6,7 @@ ghost use Rattle.vm_base.specs.declared.requests.Request.{Request as RequestType
 ghost use Rattle.vm_base.specs.declared.replies.SegvCode.TheVariants.{AccErr};
 ghost use Rattle.vm_base.specs.declared.rights.Access.TheVariants as By;
 ghost use Rattle.orders.specs.declared.history.Timed.{Timed as TimedType};
+ghost use Rattle.vm_base.specs.Functions.{has};
 ghost use Rattle.orders.specs.Orders.{Precedes};
 ghost use Rattle.loose_orders.specs.Kernel.{Conflict, GoesOn, IsAt, IsBound, IsServed, IsUnseen, MayLag, Meet, Sees, changed, kind_of};
 ghost use Rattle.loose_orders.specs.Loose.{page_accessed};
@@ -28,7 +29,7 @@ pub(crate) fn timed_at(history: &[Timed], moves: &[Move], place: usize) -> Optio
 }
 
 /// The pages that a call changes, or that a refused `mprotect` was to change.
-fn changed(request: Request, reply: Reply) -> PageRange
+pub(crate) fn changed(request: Request, reply: Reply) -> PageRange
     ensures { result ≡ changed request reply }
 {
     match (request, reply) {
@@ -48,7 +49,8 @@ fn are_apart(a: PageRange, b: PageRange) -> bool
     a.first.max(b.first) >= a.end.min(b.end)
 }
 
-/// Tells whether a change goes on although this call comes behind it: that hasn't begun after its end, and changes no page of it.
+/// Tells whether a change goes on although this call comes behind it: that hasn't begun after its end, and changes no
+/// page of it.
 fn lets(change: &Timed, one: &Timed) -> bool
     ensures time { result ≡ true → ¬ Precedes change.now one.now }
     ensures pages { result ≡ true → ¬ Conflict one.now change.now }
@@ -64,13 +66,7 @@ fn lets(change: &Timed, one: &Timed) -> bool
 }
 
 /// Tells whether the change at a place goes on at a later one.
-pub(crate) fn goes_on(
-    history: &[Timed],
-    moves: &[Move],
-    place: usize,
-    now: usize,
-    change: &Timed,
-) -> bool
+fn goes_on(history: &[Timed], moves: &[Move], place: usize, now: usize, change: &Timed) -> bool
     ensures { result ≡ true → GoesOn history.now moves.now place now change.now }
 {
     if place >= now {
@@ -92,6 +88,25 @@ pub(crate) fn goes_on(
         return false;
     }
     true
+}
+
+/// Tells whether the change at a place, of which this page is one, goes on at a later place.
+pub(crate) fn is_late_to(
+    history: &[Timed],
+    moves: &[Move],
+    place: usize,
+    now: usize,
+    change: &Timed,
+    page: u64,
+) -> bool
+    ensures goes_on { result ≡ true → GoesOn history.now moves.now place now change.now }
+    ensures within { result ≡ true → has (changed change.now.call.request change.now.call.reply) page ≡ true }
+{
+    let range = changed(change.call.request, change.call.reply);
+    if !range.contains(page) {
+        return false;
+    }
+    goes_on(history, moves, place, now, change)
 }
 
 /// The page that a request accesses.
@@ -186,7 +201,8 @@ fn is_same(a: Option<Access>, b: Option<Access>) -> bool
 
 /// Tells whether an access was refused which is of the other's core and kind.
 fn binds(by: &Call, call: &Call) -> bool
-    ensures { (code : Code) → by.now.core ≡ call.now.core → kind_of by.now.request ≡ kind_of call.now.request → by.now.reply ≡ ReplyOf.Segv code → result ≡ true }
+    ensures { (code : Code) → by.now.core ≡ call.now.core → kind_of by.now.request ≡ kind_of call.now.request
+        → by.now.reply ≡ ReplyOf.Segv code → result ≡ true }
 {
     let is_kind = is_same(kind_of(by.request), kind_of(call.request));
     let is_refused = matches!(by.reply, Reply::Segv(_));
@@ -220,7 +236,8 @@ fn binds_at(
     call: &Call,
     ended: u64,
 ) -> bool
-    ensures { (c : TimedType) (code : Code) → result ≡ false → Sees history.now moves.now place page c → c.call.core ≡ call.now.core
+    ensures { (c : TimedType) (code : Code) → result ≡ false → Sees history.now moves.now place page c
+        → c.call.core ≡ call.now.core
         → kind_of c.call.request ≡ kind_of call.now.request → c.call.reply ≡ ReplyOf.Segv code → c.begin ≤ ended }
 {
     let Some(by) = seen_by(history, moves, place, page) else {
@@ -236,8 +253,8 @@ fn binds_at(
     true
 }
 
-/// Tells whether between two places nothing binds an access of the page. `false` says nothing of one behind `mprotect`: a refusal may have begun
-/// before the page was seen new.
+/// Tells whether between two places nothing binds an access of the page. `false` says nothing of one behind `mprotect`:
+/// a refusal may have begun before the page was seen new.
 pub(crate) fn is_free(
     history: &[Timed],
     moves: &[Move],
@@ -246,7 +263,8 @@ pub(crate) fn is_free(
     page: u64,
     call: &Call,
 ) -> bool
-    ensures { (request : RequestType) → result ≡ true → ¬ IsBound history.now moves.now place now page request call.now }
+    ensures { (request : RequestType) → result ≡ true
+        → ¬ IsBound history.now moves.now place now page request call.now }
 {
     if place >= now {
         return true;
@@ -280,7 +298,8 @@ fn is_refused_fetch(call: &Call) -> bool
     }
 }
 
-/// Tells whether an access of the page may go by what the change at a place has replaced. Where threads move between cores, nothing binds it.
+/// Tells whether an access of the page may go by what the change at a place has replaced. Where threads move between
+/// cores, nothing binds it.
 pub(crate) fn may_lag(
     moving: bool,
     history: &[Timed],
@@ -290,7 +309,8 @@ pub(crate) fn may_lag(
     page: u64,
     call: &Call,
 ) -> bool
-    ensures { (request : RequestType) → result ≡ true → MayLag moving history.now moves.now place now page request call.now }
+    ensures { (request : RequestType) → result ≡ true
+        → MayLag moving history.now moves.now place now page request call.now }
 {
     if is_refused_fetch(call) {
         return true;

@@ -1,4 +1,4 @@
-//! What is kept of the entries that calls have replaced: as much as accesses that go as before them need.
+//! What is kept of the entries that calls have replaced: as much as late accesses need.
 ghost use Rattle.std.specs.Prelude.{◌≡◌, ◌≢◌, ◌==◌, ℕ, IfNone, IfOk, IfSome, Some, not, slice_get, true};
 ghost use Rattle.vm_base.specs.Apply.{access_reply};
 ghost use Rattle.vm_base.specs.Pages.{is_page, offset_of, page_of};
@@ -8,6 +8,7 @@ ghost use Rattle.vm_base.specs.declared.rights.Access.TheVariants as By;
 ghost use Rattle.audit.specs.Auditor.{plain_of};
 ghost use Rattle.audit.specs.Keeping.{entry_kept, own_kept};
 ghost use Rattle.loose_orders.specs.Kept.{AllKept, HasReplaced, IsWas, Olds};
+ghost use Rattle.loose_orders.specs.Kernel.{HasRights};
 ghost use Rattle.loose_orders.specs.Loose.{replaces};
 
 use audit::{Auditor, ReplyVerdict};
@@ -23,8 +24,8 @@ use vm_base::{
 pub(crate) enum Was {
     /// To nothing.
     Unmapped,
-    /// To memory of its own with this protection, which has this byte at the offset of an access, if it is known: to anonymous memory, or
-    /// to a private page of a file that has its copy.
+    /// To memory of its own with this protection, which has this byte at the offset of an access, if it is known: to
+    /// anonymous memory, or to a private page of a file that has its copy.
     Own {
         /// What may be done with it.
         prot: Prot,
@@ -64,9 +65,9 @@ pub(crate) struct Kept {
     pub was: Was,
 }
 
-/// An access that may go as before a call, by the numbers of both.
+/// An access that may be late to a call, by the numbers of both.
 #[derive(Clone, Copy)]
-pub struct Use {
+pub(crate) struct Use {
     /// The call.
     pub of: u32,
     /// The access.
@@ -81,7 +82,7 @@ pub(crate) fn call_at(history: &[Timed], call: u32) -> Option<Timed>
 }
 
 /// Tells whether a call that is answered so replaces the entry of a page.
-pub fn replaces(request: Request, reply: Reply, page: u64) -> bool
+fn replaces(request: Request, reply: Reply, page: u64) -> bool
     ensures { result ≡ replaces request reply page }
 {
     match (request, reply) {
@@ -130,7 +131,8 @@ fn fetched<M: SlotMap, A: Allocator>(
 /// What a page is mapped to that has this and shows a file's bytes; none if it has bytes of its own.
 fn shown(info: &PageInfo) -> Option<Was>
     ensures some { (bytes : ℕ → Bytes) (i : ℕ) → IfSome result (IsWas (entry_kept bytes (Some info.now)) i) }
-    ensures none { (bytes : ℕ → Bytes) → IfNone result ((own : Bytes) × (own_kept bytes info.now.meta.back info.now.frame ≡ Some own)) }
+    ensures none { (bytes : ℕ → Bytes) → IfNone result ((own : Bytes)
+        × (own_kept bytes info.now.meta.back info.now.frame ≡ Some own)) }
 {
     let prot = info.meta.prot;
     match info.meta.back {
@@ -173,6 +175,23 @@ fn was_at<M: SlotMap, A: Allocator>(
     Ok(Some(Was::Own { prot, byte }))
 }
 
+/// Tells whether a page is mapped with these rights.
+pub(crate) fn has_rights<M: SlotMap, A: Allocator>(
+    auditor: &Auditor<M, A>,
+    page: u64,
+    prot: Prot,
+) -> bool
+    ensures { result ≡ true → HasRights ((plain_of auditor.now).entry page) prot }
+{
+    if !is_valid(page) {
+        return false;
+    }
+    match auditor.map().page(page) {
+        Some(info) => info.meta.prot == prot,
+        None => false,
+    }
+}
+
 /// The address that a request accesses.
 fn address_of(request: Request) -> Option<u64> {
     match request {
@@ -193,7 +212,8 @@ fn note_one<M: SlotMap, A: Allocator>(
 ) -> Result<(), NoMemory>
     ensures plain { plain_of auditor.new ≡ plain_of auditor.old }
     ensures any_place { auditor.new.any_place ≡ auditor.old.any_place }
-    ensures kept { (old : Olds) → HasReplaced old history.now call (plain_of auditor.old) → AllKept old kept.old.items → AllKept old kept.new.items }
+    ensures kept { (old : Olds) → HasReplaced old history.now call (plain_of auditor.old) → AllKept old kept.old.items
+        → AllKept old kept.new.items }
 {
     let Some(timed) = call_at(history, call) else {
         return Ok(());
@@ -247,7 +267,8 @@ pub(crate) fn note<M: SlotMap, A: Allocator>(
 ) -> Result<(), NoMemory>
     ensures plain { plain_of auditor.new ≡ plain_of auditor.old }
     ensures any_place { auditor.new.any_place ≡ auditor.old.any_place }
-    ensures kept { (old : Olds) → HasReplaced old history.now call (plain_of auditor.old) → AllKept old kept.old.items → AllKept old kept.new.items }
+    ensures kept { (old : Olds) → HasReplaced old history.now call (plain_of auditor.old) → AllKept old kept.old.items
+        → AllKept old kept.new.items }
 {
     'uses: for at in first_use(uses, call)..uses.len() {
         let one = uses[at];
@@ -268,7 +289,8 @@ fn is_other(kept: &Kept, call: u32) -> bool
 
 /// Nothing is kept for a call any more.
 pub(crate) fn forget<A: Allocator>(kept: &mut Vec<Kept, A>, call: u32)
-    ensures { (old new : Olds) → ((other page : ℕ) → other ≢ call → new other page ≡ old other page) → AllKept old kept.old.items → AllKept new kept.new.items }
+    ensures { (old new : Olds) → ((other page : ℕ) → other ≢ call → new other page ≡ old other page)
+        → AllKept old kept.old.items → AllKept new kept.new.items }
 {
     kept.retain(|one| is_other(one, call));
 }

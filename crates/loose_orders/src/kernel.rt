@@ -9,15 +9,15 @@ ghost use Rattle.audit.specs.Auditor.{plain_of};
 ghost use Rattle.audit.specs.Placing.{rule_of};
 ghost use Rattle.orders.specs.Orders.{CopiesFor};
 ghost use Rattle.loose_orders.specs.Kept.{AllKept, HasReplaced, IsKept, IsWas, Olds};
-ghost use Rattle.loose_orders.specs.Kernel.{IsReady, IsUnseen, LeadAll, MayLag};
+ghost use Rattle.loose_orders.specs.Kernel.{HasRights, IsReady, IsUnseen, LeadAll, MayLag};
 ghost use Rattle.loose_orders.specs.Loose.{Loose, begun, page_accessed};
-ghost use Rattle.loose_orders.specs.Moved.{ChangesBy, ChangesFront, CopiesOld, GoesBehind, GoesByRights, HadRights, HasRights, Lags, MovesOn};
+ghost use Rattle.loose_orders.specs.Moved.{ChangesBy, ChangesFront, CopiesOld, GoesBehind, GoesByRights, HadRights, Lags, MovesOn};
 ghost use Rattle.loose_orders.specs.declared.moves.Move.{Move as MoveType};
 ghost use Rattle.loose_orders.specs.declared.moves.Move.TheVariants as MoveOf;
 
 use crate::behind::goes_behind;
-use crate::between::{goes_on, is_unseen, may_lag, page_accessed};
-use crate::keeping::{Kept, Use, Was, call_at, forget};
+use crate::between::{is_late_to, is_unseen, may_lag, page_accessed};
+use crate::keeping::{Kept, Use, Was, call_at, forget, has_rights};
 use crate::leading::{copies, is_copied, is_plain, replies};
 use crate::moves::Move;
 use audit::{Auditor, Call};
@@ -69,7 +69,8 @@ fn answers<M: SlotMap, A: Allocator>(
     request: Request,
     reply: Reply,
 ) -> Result<bool, NoMemory>
-    ensures yes { result ≡ Ok true → RepliesBy (rule_of auditor.old.any_place) (plain_of auditor.old) core request reply (plain_of auditor.new) }
+    ensures yes { result ≡ Ok true
+        → RepliesBy (rule_of auditor.old.any_place) (plain_of auditor.old) core request reply (plain_of auditor.new) }
     ensures any_place { auditor.new.any_place ≡ auditor.old.any_place }
 {
     let call = Call {
@@ -122,8 +123,8 @@ fn is_ready<M: SlotMap, A: Allocator>(
     Ok(true)
 }
 
-/// Tells whether an access of this page goes by the rights that a call has replaced there, and lets it: with the copy that is due before it if
-/// the page wasn't seen new.
+/// Tells whether an access of this page goes by the rights that a call has replaced there, and lets it: with the copy
+/// that is due before it if the page wasn't seen new.
 fn lags<M: SlotMap, A: Allocator>(
     auditor: &mut Auditor<M, A>,
     kept: &[Kept],
@@ -134,12 +135,17 @@ fn lags<M: SlotMap, A: Allocator>(
     is_unseen: bool,
 ) -> Result<bool, NoMemory>
     requires page { page < 2 ^ 52 }
-    ensures yes { result ≡ Ok true → Lags (rule_of auditor.old.any_place) of page is_unseen (plain_of auditor.old) kept.now (plain_of auditor.new) new call.now }
+    ensures yes { result ≡ Ok true
+        → Lags (rule_of auditor.old.any_place) of page is_unseen (plain_of auditor.old) kept.now
+        (plain_of auditor.new) new call.now }
     ensures any_place { auditor.new.any_place ≡ auditor.old.any_place }
 {
     let Some(old) = old_rights(kept, of, page) else {
         return Ok(false);
     };
+    if !has_rights(auditor, page, new) {
+        return Ok(false);
+    }
     let is_old = protect(auditor, call.core, page, old)?;
     if !is_old {
         return Ok(false);
@@ -156,7 +162,8 @@ fn lags<M: SlotMap, A: Allocator>(
     Ok(is_new)
 }
 
-/// Tells whether the page that a request stores to gets a copy by the rights that a call has replaced there, and makes it.
+/// Tells whether the page that a request stores to gets a copy by the rights that a call has replaced there, and makes
+/// it.
 fn copies_old<M: SlotMap, A: Allocator>(
     auditor: &mut Auditor<M, A>,
     kept: &[Kept],
@@ -166,12 +173,17 @@ fn copies_old<M: SlotMap, A: Allocator>(
     new: Prot,
 ) -> Result<bool, NoMemory>
     requires page { page < 2 ^ 52 }
-    ensures yes { result ≡ Ok true → CopiesOld (rule_of auditor.old.any_place) of page (plain_of auditor.old) kept.now (plain_of auditor.new) new call.now }
+    ensures yes { result ≡ Ok true
+        → CopiesOld (rule_of auditor.old.any_place) of page (plain_of auditor.old) kept.now
+        (plain_of auditor.new) new call.now }
     ensures any_place { auditor.new.any_place ≡ auditor.old.any_place }
 {
     let Some(old) = old_rights(kept, of, page) else {
         return Ok(false);
     };
+    if !has_rights(auditor, page, new) {
+        return Ok(false);
+    }
     let is_old = protect(auditor, call.core, page, old)?;
     if !is_old {
         return Ok(false);
@@ -205,8 +217,10 @@ fn finds_gone<M: SlotMap, A: Allocator>(
     call: &Call,
 ) -> Result<bool, NoMemory>
     requires page { page_accessed call.now.request ≡ Some page }
-    ensures lags { (request : RequestType) → result ≡ Ok true → MayLag moving history.now moves.now place now page request call.now }
-    ensures goes { result ≡ Ok true → GoesBehind of page (plain_of auditor.old) kept.old.items (plain_of auditor.new) kept.new.items call.now }
+    ensures lags { (request : RequestType) → result ≡ Ok true
+        → MayLag moving history.now moves.now place now page request call.now }
+    ensures goes { result ≡ Ok true
+        → GoesBehind of page (plain_of auditor.old) kept.old.items (plain_of auditor.new) kept.new.items call.now }
     ensures any_place { auditor.new.any_place ≡ auditor.old.any_place }
 {
     if !may_lag(moving, history, moves, place, now, page, call) {
@@ -227,7 +241,8 @@ fn may_go(
     page: u64,
     call: &Call,
 ) -> bool
-    ensures { (request : RequestType) → result ≡ true → is_unseen ≡ false → MayLag moving history.now moves.now place now page request call.now }
+    ensures { (request : RequestType) → result ≡ true → is_unseen ≡ false
+        → MayLag moving history.now moves.now place now page request call.now }
 {
     if is_unseen {
         return true;
@@ -250,7 +265,9 @@ fn goes_by_rights<M: SlotMap, A: Allocator>(
     new: Prot,
 ) -> Result<bool, NoMemory>
     requires page { page < 2 ^ 52 }
-    ensures yes { result ≡ Ok true → GoesByRights (rule_of auditor.old.any_place) moving history.now moves.now place now of page (plain_of auditor.old) kept.now
+    ensures yes { result ≡ Ok true
+        → GoesByRights (rule_of auditor.old.any_place) moving history.now moves.now place now of page
+        (plain_of auditor.old) kept.now
         (plain_of auditor.new) new call.now }
     ensures any_place { auditor.new.any_place ≡ auditor.old.any_place }
 {
@@ -273,7 +290,8 @@ fn goes_late<M: SlotMap, A: Allocator>(
     call: u32,
     place: u32,
 ) -> Result<bool, NoMemory>
-    ensures yes { result ≡ Ok true → MovesOn (rule_of auditor.old.any_place) moving history.now moves.now now (plain_of auditor.old) kept.old.items
+    ensures yes { result ≡ Ok true
+        → MovesOn (rule_of auditor.old.any_place) moving history.now moves.now now (plain_of auditor.old) kept.old.items
         (MoveOf.Late call place) (plain_of auditor.new) kept.new.items }
     ensures any_place { auditor.new.any_place ≡ auditor.old.any_place }
 {
@@ -291,7 +309,7 @@ fn goes_late<M: SlotMap, A: Allocator>(
     let Some(change) = call_at(history, of) else {
         return Ok(false);
     };
-    if !goes_on(history, moves, place, now, &change) {
+    if !is_late_to(history, moves, place, now, &change, page) {
         return Ok(false);
     }
     let late = &timed.call;
@@ -313,7 +331,8 @@ fn goes_late<M: SlotMap, A: Allocator>(
     }
 }
 
-/// Tells whether the page that a call stores to gets a copy by the rights that the change at a place has replaced, and makes it.
+/// Tells whether the page that a call stores to gets a copy by the rights that the change at a place has replaced, and
+/// makes it.
 fn copies_late<M: SlotMap, A: Allocator>(
     auditor: &mut Auditor<M, A>,
     kept: &[Kept],
@@ -323,7 +342,8 @@ fn copies_late<M: SlotMap, A: Allocator>(
     call: u32,
     place: u32,
 ) -> Result<bool, NoMemory>
-    ensures yes { (moving : Bool) → result ≡ Ok true → MovesOn (rule_of auditor.old.any_place) moving history.now moves.now now (plain_of auditor.old) kept.now
+    ensures yes { (moving : Bool) → result ≡ Ok true
+        → MovesOn (rule_of auditor.old.any_place) moving history.now moves.now now (plain_of auditor.old) kept.now
         (MoveOf.LateCopy call place) (plain_of auditor.new) kept.now }
     ensures any_place { auditor.new.any_place ≡ auditor.old.any_place }
 {
@@ -341,7 +361,7 @@ fn copies_late<M: SlotMap, A: Allocator>(
     let Some(change) = call_at(history, of) else {
         return Ok(false);
     };
-    if !goes_on(history, moves, place, now, &change) {
+    if !is_late_to(history, moves, place, now, &change, page) {
         return Ok(false);
     }
     if !is_unseen(history, moves, place, now, page) {
@@ -356,8 +376,8 @@ fn copies_late<M: SlotMap, A: Allocator>(
     }
 }
 
-/// Tells whether an `mprotect` of this range, which was refused so, may have changed so many of its pages, where the error is that of this
-/// one, and changes them.
+/// Tells whether an `mprotect` of this range, which was refused so, may have changed so many of its pages, where the
+/// error is that of this one, and changes them.
 fn changes_front<M: SlotMap, A: Allocator>(
     auditor: &mut Auditor<M, A>,
     core: CoreId,
@@ -368,7 +388,8 @@ fn changes_front<M: SlotMap, A: Allocator>(
     count: u64,
     page: u64,
 ) -> Result<bool, NoMemory>
-    ensures yes { result ≡ Ok true → ChangesFront (rule_of auditor.old.any_place) (plain_of auditor.old) core addr len prot error count page
+    ensures yes { result ≡ Ok true
+        → ChangesFront (rule_of auditor.old.any_place) (plain_of auditor.old) core addr len prot error count page
         (plain_of auditor.new) }
     ensures any_place { auditor.new.any_place ≡ auditor.old.any_place }
 {
@@ -404,7 +425,8 @@ fn changes_by<M: SlotMap, A: Allocator>(
     count: u64,
     page: u64,
 ) -> Result<bool, NoMemory>
-    ensures yes { result ≡ Ok true → ChangesBy (rule_of auditor.old.any_place) (plain_of auditor.old) call.now count page (plain_of auditor.new) }
+    ensures yes { result ≡ Ok true
+        → ChangesBy (rule_of auditor.old.any_place) (plain_of auditor.old) call.now count page (plain_of auditor.new) }
     ensures any_place { auditor.new.any_place ≡ auditor.old.any_place }
 {
     match (call.request, call.reply) {
@@ -426,7 +448,8 @@ fn changes_part<M: SlotMap, A: Allocator>(
     count: u64,
     page: u64,
 ) -> Result<bool, NoMemory>
-    ensures yes { (moving : Bool) (moves : List MoveType) (k : ℕ) → result ≡ Ok true → MovesOn (rule_of auditor.old.any_place) moving history.now moves k
+    ensures yes { (moving : Bool) (moves : List MoveType) (k : ℕ) → result ≡ Ok true
+        → MovesOn (rule_of auditor.old.any_place) moving history.now moves k
         (plain_of auditor.old) kept.old.items (MoveOf.Part call count page) (plain_of auditor.new) kept.new.items }
     ensures any_place { auditor.new.any_place ≡ auditor.old.any_place }
 {
@@ -449,7 +472,8 @@ fn leads<M: SlotMap, A: Allocator>(
     now: usize,
     one: Move,
 ) -> Result<bool, NoMemory>
-    ensures yes { result ≡ Ok true → MovesOn (rule_of auditor.old.any_place) moving history.now moves.now now (plain_of auditor.old) kept.old.items
+    ensures yes { result ≡ Ok true
+        → MovesOn (rule_of auditor.old.any_place) moving history.now moves.now now (plain_of auditor.old) kept.old.items
         one (plain_of auditor.new) kept.new.items }
     ensures any_place { auditor.new.any_place ≡ auditor.old.any_place }
 {
@@ -487,7 +511,9 @@ pub(crate) fn all_lead<M: SlotMap, A: Allocator>(
     uses: &[Use],
     moves: &[Move],
 ) -> Result<bool, NoMemory>
-    ensures { result ≡ Ok true → (last : Loose) × LeadAll (rule_of auditor.old.any_place) moving history.now moves.now 0 (begun (plain_of auditor.old)) moves.now last }
+    ensures { result ≡ Ok true → (last : Loose)
+        × LeadAll (rule_of auditor.old.any_place) moving history.now moves.now 0 (begun
+        (plain_of auditor.old)) moves.now last }
 {
     let mut kept = Vec::new(alloc);
     'moves: for at in 0..moves.len() {

@@ -1,12 +1,14 @@
-//! Laws of orders by the loose rule, and by the rule that kernels keep.
-ghost use Rattle.loose_orders.specs.Laws.{OrdersAreLoose, OrdersKeepTheRule};
-
-/// Calls that have an order, each at one moment, have one by the loose rule, if none ends before it begins.
-pub fn orders_are_loose()
-    ensures { OrdersAreLoose }
-{}
+//! Laws of orders by the rule that kernels keep.
+ghost use Rattle.loose_orders.specs.Laws.{OrdersKeepTheRule};
+ghost use Rattle.loose_orders.specs.Timely.{TimelyOrders};
 
 /// Calls that have an order, each at one moment, have one by the rule that kernels keep.
 pub fn orders_keep_the_rule()
     ensures { OrdersKeepTheRule }
+{}
+
+/// Without the accesses that may be late, calls that have an order by the rule that kernels keep have one at one
+/// moment.
+pub fn timely_orders()
+    ensures { TimelyOrders }
 {}

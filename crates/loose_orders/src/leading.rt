@@ -1,19 +1,14 @@
-//! Whether steps, one after another, lead from one state to another.
-ghost use Rattle.std.specs.Prelude.{◌≡◌, ◌↔◌, Bool, IsTrue, List, Ok, false, true};
+//! Whether calls take effect by the map as it is, and pages are copied.
+ghost use Rattle.std.specs.Prelude.{◌≡◌, ◌↔◌, IsTrue, Ok, false, true};
 ghost use Rattle.vm_base.specs.Log.{RepliesBy};
-ghost use Rattle.vm_base.specs.Plain.{Plain};
 ghost use Rattle.orders.specs.declared.history.Timed.{Timed};
 ghost use Rattle.orders.specs.Orders.{CopiesFor};
 ghost use Rattle.audit.specs.Auditor.{plain_of};
 ghost use Rattle.audit.specs.Placing.{rule_of};
-ghost use Rattle.loose_orders.specs.Following.{StepsOn};
+ghost use Rattle.loose_orders.specs.Moved.{CopiesOn, TakesOn};
 ghost use Rattle.loose_orders.specs.Kernel.{IsReady};
-ghost use Rattle.loose_orders.specs.Loose.{LeadAll, Loose, begun};
-ghost use Rattle.loose_orders.specs.declared.steps.Step.TheVariants as StepOf;
 
 use crate::keeping::{Kept, Use, call_at, forget, note};
-use crate::late::goes_late;
-use crate::steps::Step;
 use audit::{Auditor, Call, ReplyVerdict};
 use orders::Timed;
 use slot_lock::SlotMap;
@@ -39,7 +34,8 @@ pub(crate) fn is_plain<M: SlotMap, A: Allocator>(
     auditor: &mut Auditor<M, A>,
     call: Call,
 ) -> Result<bool, NoMemory>
-    ensures yes { result ≡ Ok true → RepliesBy (rule_of auditor.old.any_place) (plain_of auditor.old) call.core call.request
+    ensures yes { result ≡ Ok true
+        → RepliesBy (rule_of auditor.old.any_place) (plain_of auditor.old) call.core call.request
         call.reply (plain_of auditor.new) }
     ensures any_place { auditor.new.any_place ≡ auditor.old.any_place }
 {
@@ -83,8 +79,9 @@ pub(crate) fn replies<M: SlotMap, A: Allocator>(
     uses: &[Use],
     call: u32,
 ) -> Result<bool, NoMemory>
-    ensures yes { result ≡ Ok true → StepsOn (rule_of auditor.old.any_place) history.now (plain_of auditor.old) kept.old.items
-        (StepOf.Reply call) (plain_of auditor.new) kept.new.items }
+    ensures yes { result ≡ Ok true
+        → TakesOn (rule_of auditor.old.any_place) history.now (plain_of auditor.old) kept.old.items
+        call (plain_of auditor.new) kept.new.items }
     ensures any_place { auditor.new.any_place ≡ auditor.old.any_place }
 {
     let Some(timed) = call_at(history, call) else {
@@ -103,8 +100,7 @@ pub(crate) fn copies<M: SlotMap, A: Allocator>(
     history: &[Timed],
     call: u32,
 ) -> Result<bool, NoMemory>
-    ensures yes { result ≡ Ok true → StepsOn (rule_of auditor.old.any_place) history.now (plain_of auditor.old) kept.now
-        (StepOf.Copy call) (plain_of auditor.new) kept.now }
+    ensures yes { result ≡ Ok true → CopiesOn history.now (plain_of auditor.old) kept.now call (plain_of auditor.new) kept.now }
     ensures any_place { auditor.new.any_place ≡ auditor.old.any_place }
 {
     let Some(timed) = call_at(history, call) else {
@@ -112,82 +108,4 @@ pub(crate) fn copies<M: SlotMap, A: Allocator>(
     };
     let goes = is_copied(auditor, timed.call.request)?;
     Ok(goes)
-}
-
-/// Tells whether a call goes as before one that hasn't ended, and lets it.
-fn goes_as_before<M: SlotMap, A: Allocator>(
-    auditor: &mut Auditor<M, A>,
-    kept: &mut Vec<Kept, A>,
-    history: &[Timed],
-    call: u32,
-) -> Result<bool, NoMemory>
-    ensures yes { result ≡ Ok true → StepsOn (rule_of auditor.old.any_place) history.now (plain_of auditor.old) kept.old.items
-        (StepOf.Late call) (plain_of auditor.new) kept.new.items }
-    ensures any_place { auditor.new.any_place ≡ auditor.old.any_place }
-{
-    let Some(timed) = call_at(history, call) else {
-        return Ok(false);
-    };
-    let goes = goes_late(auditor, kept, timed.call)?;
-    Ok(goes)
-}
-
-/// A call has ended.
-fn ends<A: Allocator>(kept: &mut Vec<Kept, A>, call: u32)
-    ensures { (any_place : Bool) (h : List Timed) (t : Plain) → StepsOn (rule_of any_place) h t kept.old.items (StepOf.End call) t kept.new.items }
-{
-    forget(kept, call);
-}
-
-/// Tells whether a step leads on, and goes there.
-fn leads<M: SlotMap, A: Allocator>(
-    auditor: &mut Auditor<M, A>,
-    kept: &mut Vec<Kept, A>,
-    history: &[Timed],
-    uses: &[Use],
-    step: Step,
-) -> Result<bool, NoMemory>
-    ensures yes { result ≡ Ok true → StepsOn (rule_of auditor.old.any_place) history.now (plain_of auditor.old) kept.old.items
-        step (plain_of auditor.new) kept.new.items }
-    ensures any_place { auditor.new.any_place ≡ auditor.old.any_place }
-{
-    match step {
-        Step::Reply(call) => {
-            let goes = replies(auditor, kept, history, uses, call)?;
-            Ok(goes)
-        }
-        Step::Late(call) => {
-            let goes = goes_as_before(auditor, kept, history, call)?;
-            Ok(goes)
-        }
-        Step::Copy(call) => {
-            let goes = copies(auditor, kept.as_slice(), history, call)?;
-            Ok(goes)
-        }
-        Step::End(call) => {
-            ends(kept, call);
-            Ok(true)
-        }
-    }
-}
-
-/// Tells whether all steps lead on, one after another, where nothing was replaced before.
-pub(crate) fn all_lead<M: SlotMap, A: Allocator>(
-    alloc: A,
-    auditor: &mut Auditor<M, A>,
-    history: &[Timed],
-    uses: &[Use],
-    steps: &[Step],
-) -> Result<bool, NoMemory>
-    ensures { result ≡ Ok true → (last : Loose) × LeadAll (rule_of auditor.old.any_place) history.now (begun (plain_of auditor.old)) steps.now last }
-{
-    let mut kept = Vec::new(alloc);
-    'steps: for at in 0..steps.len() {
-        let step = steps[at];
-        let goes = leads(auditor, &mut kept, history, uses, step)?;
-        if !goes {
-            return Ok(false);
-        }
-    }
-    Ok(true)
 }

@@ -1,18 +1,17 @@
-//! Whether given steps are an order of overlapping calls by the loose rule.
+//! Whether given moves are an order of overlapping calls by the rule that kernels keep (specs/Kernel.antt).
 //!
-//! By this rule an access may still go as before a call, until that call has ended.
+//! By this rule a change takes effect whole, and until it is over an access may still go by what it has replaced.
 //!
-//! - `steps`: what an order has at its places; `leading`, `late`, `keeping`: what steps lead to, and what is kept of
-//!   replaced entries.
-//! - `moves`, `kernel`, `between`, `behind`: the same by the rule that kernels keep (specs/Kernel.antt).
+//! - `moves`: what an order has at its places; `kernel`, `leading`, `behind`, `late`: what moves lead to; `keeping`:
+//!   what is kept of replaced entries; `between`: what comes between a change and an access.
+//! - `timely`: the calls without the accesses that may be late.
 //!
-//! It exists for `following::follow` and `obeying::obey`, whether given steps or moves are such an order, and
-//! `laws`. It searches nothing.
+//! It exists for `obeying::obey`, whether given moves are such an order, and `laws`: calls that have an order at one
+//! moment have one, and without the accesses that may be late these have one at one moment. It searches nothing.
 #![tactic(auto)]
 
 mod behind;
 mod between;
-pub mod following;
 mod keeping;
 mod kernel;
 mod late;
@@ -20,10 +19,8 @@ pub mod laws;
 mod leading;
 pub mod moves;
 pub mod obeying;
-pub mod steps;
+mod timely;
 
-pub use following::follow;
-pub use keeping::{Use, replaces};
 pub use moves::Move;
 pub use obeying::obey;
-pub use steps::Step;
+pub use timely::{none_is_part, taken};

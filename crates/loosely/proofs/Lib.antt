@@ -1,14 +1,3 @@
+pub mod EndLemmas
 pub mod KernelLemmas
-pub mod Alike
-pub mod Calm
-pub mod Eased
-pub mod Lagged
-pub mod Lists
-pub mod Live
-pub mod LooseLemmas
-pub mod Moving
-pub mod Placed
-pub mod Replies
-pub mod Shows
-pub mod Taken
-pub mod Tame
+pub mod RuleLemmas

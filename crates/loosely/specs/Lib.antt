@@ -1,5 +1,4 @@
-pub mod Easing
-pub mod Lagging
-pub mod Loosely
-pub mod Shown
+pub mod Effects
+pub mod Ends
 pub mod Kernel
+pub mod Rulings

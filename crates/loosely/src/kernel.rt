@@ -1,5 +1,5 @@
 //! Judging a text of calls that overlap by the rule that kernels keep.
-ghost use Rattle.std.specs.Prelude.{◌≡◌, ◌≤◌, [], IfErr, IfOk, Ok, length, true};
+ghost use Rattle.std.specs.Prelude.{◌≡◌, ◌≤◌, Bool as BoolType, IfErr, IfOk, IfSome, Ok, length, slice_get, true};
 ghost use Rattle.trace_io.specs.Lines.{lines_of};
 ghost use Rattle.slot_lock.specs.Slots.{IsNew};
 ghost use Rattle.vm_base.specs.Plain.{nothing_mapped};
@@ -9,17 +9,20 @@ ghost use Rattle.orders_text.specs.Faults.{IsAtFault};
 ghost use Rattle.orders_text.specs.History.{IsHistory, completed, replies_in};
 ghost use Rattle.orders_text.specs.Steps.{HasPlaces, read_of};
 ghost use Rattle.loose_orders.specs.Kernel.{HasKernelOrder};
-ghost use Rattle.page_orders.specs.Rulings.{IsRuling};
+ghost use Rattle.loosely.specs.Kernel.{IsCoreByKernel, IsExplainedByKernel, IsTold};
+ghost use Rattle.loosely.specs.Rulings.{IsRuling};
 
+use crate::waiting::{effects, none_waits};
 use audit::Auditor;
+use core_text::core_text;
+use cores::{Core, find_core};
 use frames::{FileSpec, Objects};
-use loose_orders::{Move, obey};
+use loose_orders::{Move, none_is_part, obey, taken};
 use no_order::files_again;
 use order_search::{Found, Kernel, find_by_kernel};
 use orders::{Item, Timed};
 use orders_text::{History, HistoryFault, completed, read_history};
-use overlapping::{Ruled, Ruling};
-use page_orders::{effects, line_at, none_waits};
+use overlapping::{Ruled, Ruling, Told, bare};
 use slot_lock::SlotMap;
 use std::alloc::Allocator;
 use trace_io::IoFault;
@@ -31,7 +34,8 @@ const NONE: u32 = 0xffff_ffff;
 /// No count.
 const UNCHANGED: u64 = u64::MAX;
 
-// The calls of a history, the replies of those that wait at its end, and what a search finds of them: moves, or that none gets to the end of a call.
+// The calls of a history, the replies of those that wait at its end, and what a search finds of them: moves, or that
+// none gets to the end of a call.
 #[derive(Drop)]
 struct Tried<A: Allocator> {
     replies: Vec<Reply, A>,
@@ -104,7 +108,8 @@ fn first_page(calls: &[Timed], call: u32) -> u64 {
     }
 }
 
-// The move of an item, where these are the places of all calls, what accesses go before, and how much refused calls have changed.
+// The move of an item, where these are the places of all calls, what accesses go before, and how much refused calls
+// have changed.
 fn move_of(item: Item, calls: &[Timed], places: &[u32], behind: &[u32], counts: &[u64]) -> Move {
     let Item::Reply(call) = item else {
         return Move::Copy(item.call());
@@ -221,14 +226,93 @@ fn is_order<M: SlotMap + Drop, A: Allocator + Clone + Drop>(
 ) -> Result<bool, NoMemory>
     requires new { IsNew (M.slots map) }
     requires few { length files.now ≤ 16 }
-    ensures { result ≡ Ok true → HasKernelOrder (rule_of any_place) moving (nothing_mapped (given_files files.now)) calls.now }
+    ensures { result ≡ Ok true
+        → HasKernelOrder (rule_of any_place) moving (nothing_mapped (given_files files.now)) calls.now }
 {
     let again = files_again(alloc, files)?;
     let mut auditor = Auditor::new(alloc.clone()?, map, again, any_place)?;
     obey(alloc.clone()?, &mut auditor, moving, calls, moves)
 }
 
-// What is told of a history: that it is legal where the order that was found is checked, and else that it is undecided.
+// A few calls that have no order at one moment though none of them may be late, if such are found among the calls of a
+// history. None was found until the end of this one.
+fn core_without_late<A: Allocator + Clone + Drop>(
+    alloc: &A,
+    any_place: bool,
+    calls: &[Timed],
+    stuck: usize,
+) -> Result<Option<Core<A>>, NoMemory>
+    ensures { IfOk result (λ found. IfSome found (λ core. IsCoreByKernel any_place calls.now core)) }
+{
+    if !none_is_part(calls) {
+        return Ok(None);
+    }
+    match taken(alloc, calls, stuck)? {
+        Some(left) => {
+            let core = find_core(alloc, any_place, left.as_slice(), stuck)?;
+            Ok(core)
+        }
+        None => Ok(None),
+    }
+}
+
+// The line of the call at this place of a history, if there is one.
+fn line_at(lines: &[u64], place: usize) -> Option<u64>
+    ensures { result ≡ slice_get lines.now place }
+{
+    lines.get(place).copied()
+}
+
+// The call of a history at this place, if there is one.
+fn call_at(calls: &[Timed], place: usize) -> Option<Timed>
+    ensures { result ≡ slice_get calls.now place }
+{
+    calls.get(place).copied()
+}
+
+// What is told of a history of which no order was found until the end of the call at this place: that there is none
+// where that is shown.
+#[tactic(auto, using(crate::proofs::KernelLemmas::undecided_told))]
+fn rule_without<A: Allocator + Clone + Drop>(
+    alloc: &A,
+    text: &[u8],
+    history: &History<A>,
+    any_place: bool,
+    place: usize,
+) -> Result<Told<A>, NoMemory>
+    ensures { (moving : BoolType) → IfOk result (IsTold any_place moving (lines_of text.now) (read_of history.now)) }
+{
+    let lines = history.lines.as_slice();
+    let Some(line) = line_at(lines, place) else {
+        return bare(alloc, Ruling::Undecided(0));
+    };
+    let Some(timed) = call_at(history.calls.as_slice(), place) else {
+        return bare(alloc, Ruling::Undecided(line));
+    };
+    let reply = timed.call.reply;
+    if !none_waits(history.waiting.as_slice()) {
+        return bare(alloc, Ruling::Undecided(line));
+    }
+    match core_without_late(alloc, any_place, history.calls.as_slice(), place)? {
+        None => bare(alloc, Ruling::Undecided(line)),
+        Some(core) => {
+            // (so it is: calls are looked at until then)
+            if core.cut != timed.end {
+                return bare(alloc, Ruling::Undecided(line));
+            }
+            let explanation = core_text(alloc, text, lines, &core)?;
+            let ruling = Ruling::NoOrder { line, reply };
+            Ok(Told {
+                ruling,
+                explanation,
+            })
+        }
+    }
+}
+
+// What is told of a history: that it is legal where the order that was found is checked; that it has no order where
+// that is shown; and else that it is undecided.
+#[tactic(auto, using(crate::proofs::KernelLemmas::legal_told))]
 fn rule<M: SlotMap + Drop, A: Allocator + Clone + Drop>(
     alloc: &A,
     map: M,
@@ -236,12 +320,11 @@ fn rule<M: SlotMap + Drop, A: Allocator + Clone + Drop>(
     history: &History<A>,
     any_place: bool,
     moving: bool,
-) -> Result<Ruling, NoMemory>
+) -> Result<Told<A>, NoMemory>
     requires new { IsNew (M.slots map) }
     requires few { length history.now.declaration.files.items ≤ 16 }
     requires places { HasPlaces history.now }
-    requires text { IsHistory (lines_of text.now) (read_of history.now) }
-    ensures { IfOk result (IsRuling (HasKernelOrder (rule_of any_place) moving) (lines_of text.now)) }
+    ensures { IfOk result (IsTold any_place moving (lines_of text.now) (read_of history.now)) }
 {
     let tried = search_history(alloc, history, any_place)?;
     let calls = tried.calls.as_slice();
@@ -256,7 +339,7 @@ fn rule<M: SlotMap + Drop, A: Allocator + Clone + Drop>(
         tried.moves.as_slice(),
     )?;
     if is_one {
-        return Ok(Ruling::Legal(history.calls.len() as u64));
+        return bare(alloc, Ruling::Legal(history.calls.len() as u64));
     }
     let last = history.calls.len().saturating_sub(1);
     let place = if tried.is_found {
@@ -264,11 +347,10 @@ fn rule<M: SlotMap + Drop, A: Allocator + Clone + Drop>(
     } else {
         tried.stuck.min(last)
     };
-    let line = line_at(history.lines.as_slice(), place).unwrap_or(0);
-    Ok(Ruling::Undecided(line))
+    rule_without(alloc, text, history, any_place, place)
 }
 
-// The same, with nothing beside it.
+// The same, beside which no order stands.
 fn ruled<M: SlotMap + Drop, A: Allocator + Clone + Drop>(
     alloc: &A,
     map: M,
@@ -281,21 +363,22 @@ fn ruled<M: SlotMap + Drop, A: Allocator + Clone + Drop>(
     requires few { length history.now.declaration.files.items ≤ 16 }
     requires places { HasPlaces history.now }
     requires text { IsHistory (lines_of text.now) (read_of history.now) }
-    ensures ruling { IfOk result (λ ruled. IsRuling (HasKernelOrder (rule_of any_place) moving) (lines_of text.now) ruled.ruling) }
-    ensures explained { IfOk result (λ ruled. ruled.explanation.items ≡ []) }
+    ensures ruling { IfOk result (λ ruled. IsRuling (HasKernelOrder
+        (rule_of any_place) moving) (lines_of text.now) ruled.ruling) }
+    ensures explained { IfOk result (λ ruled. IsExplainedByKernel any_place
+        (lines_of text.now) ruled.ruling ruled.explanation.items) }
 {
-    let ruling = rule(alloc, map, text, history, any_place, moving)?;
+    let told = rule(alloc, map, text, history, any_place, moving)?;
     let order = Vec::new(alloc.clone()?);
-    let explanation = Vec::new(alloc.clone()?);
     Ok(Ruled {
-        ruling,
+        ruling: told.ruling,
         order,
-        explanation,
+        explanation: told.explanation,
     })
 }
 
-/// Judges a text by the rule that kernels keep: it is that of a history, whose calls have an order by it, or of which none was found; or it isn't,
-/// and why. Nothing stands beside the ruling.
+/// Judges a text by the rule that kernels keep: it is that of a history, whose calls have an order by it, or have none,
+/// or of which none was found; or it isn't, and why. Beside the ruling that there is none stands what explains it.
 pub fn judge_by_rule<M: SlotMap + Drop, A: Allocator + Clone + Drop>(
     alloc: &A,
     map: M,
@@ -304,8 +387,10 @@ pub fn judge_by_rule<M: SlotMap + Drop, A: Allocator + Clone + Drop>(
     moving: bool,
 ) -> Result<Ruled<A>, HistoryFault>
     requires new { IsNew (M.slots map) }
-    ensures ok { IfOk result (λ ruled. IsRuling (HasKernelOrder (rule_of any_place) moving) (lines_of text.now) ruled.ruling) }
-    ensures explained { IfOk result (λ ruled. ruled.explanation.items ≡ []) }
+    ensures ok { IfOk result (λ ruled. IsRuling (HasKernelOrder
+        (rule_of any_place) moving) (lines_of text.now) ruled.ruling) }
+    ensures explained { IfOk result (λ ruled. IsExplainedByKernel any_place
+        (lines_of text.now) ruled.ruling ruled.explanation.items) }
     ensures err { IfErr result (λ f. IsAtFault (lines_of text.now) f) }
 {
     let history = match read_history(alloc, text) {

@@ -17,7 +17,7 @@ use trace_io::sink::{Sink, write_out};
 use trace_io::source::{Source, read_all};
 
 // Judges a text by the rule that kernels keep, and writes the ruling.
-#[tactic(auto, using(page_orders::proofs::EndLemmas::judges_all, page_orders::proofs::EndLemmas::breaks_off, page_orders::proofs::EndLemmas::fails_so, trace_io::proofs::IoLemmas::keeps_same))]
+#[tactic(auto, using(crate::proofs::EndLemmas::judges_all, crate::proofs::EndLemmas::breaks_off, crate::proofs::EndLemmas::fails_so, trace_io::proofs::IoLemmas::keeps_same))]
 fn judge_out<M: SlotMap + Drop, A: Allocator + Clone + Drop, W: Sink>(
     alloc: A,
     map: M,
@@ -47,9 +47,10 @@ fn judge_out<M: SlotMap + Drop, A: Allocator + Clone + Drop, W: Sink>(
     }
 }
 
-/// Reads a text to its end, and writes whether its calls, which may overlap, have an order by the rule that kernels keep, which begins with nothing
-/// mapped: `legal CALLS`, which is told only where the order was checked, or else `undecided LINE`. With `moving`, threads may move between
-/// cores. The map has nothing mapped.
+/// Reads a text to its end, and writes whether its calls, which may overlap, have an order by the rule that kernels
+/// keep, which begins with nothing mapped: `legal CALLS`, which is told only where the order was checked; or `no order
+/// LINE: replied REPLY`, and the lines that explain it, only where that was shown; or else `undecided LINE`. With
+/// `moving`, threads may move between cores. The map has nothing mapped.
 pub fn judge_by_kernel<M: SlotMap + Drop, A: Allocator + Clone + Drop, S: Source, W: Sink>(
     alloc: A,
     map: M,

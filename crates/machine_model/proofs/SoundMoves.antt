@@ -1,5 +1,6 @@
 -- What a step leaves: a call goes on, or has its reply
-use Rattle.machine_model.proofs.Words.{◌≡◌, ◌⊎◌, ◌++◌, ◌∷◌, [], ℕ, Bool, false, inl, inr, refl, sym, subst, Some, Option, PageInfo, PageRange, Reply, Request, frame_of, Bytes}
+use Rattle.machine_model.proofs.Words.{◌≡◌, ◌⊎◌, ◌++◌, ◌∷◌, [], ℕ, Bool, false, inl, inr, refl, sym, subst, Some, Option, PageInfo, PageRange, Reply}
+use Rattle.machine_model.proofs.Words.{Request, frame_of, Bytes}
 use Rattle.machine_model.proofs.Words.{File, Plain, nothing_mapped, Slots, Counts, Event, Entry, Phase, is_past_end, to, with_entry, after_reply, answer_entry}
 use Rattle.machine_model.proofs.Words.{detach_entry, World, Hardware, Memory, nth, CanAccess, Replays, Stands, detached, IsPlace}
 use Rattle.vm_base.specs.declared.rights.Access.TheVariants.{Store}

@@ -1,5 +1,6 @@
 -- Fronts of lists, and of orders
-use Rattle.std.proofs.Common.{◌≡◌, ◌∙◌, Bool, ℕ, zero, suc, ◌+◌, ◌<◌, ◌≤◌, ◌⊎◌, inl, inr, List, [], ◌∷◌, ◌++◌, Some, get_or, append-nil, append_assoc, ap, arith, length, refl, slice_get, subst, sym}
+use Rattle.std.proofs.Common.{◌≡◌, ◌∙◌, Bool, ℕ, zero, suc, ◌+◌, ◌<◌, ◌≤◌, ◌⊎◌, inl, inr, List, [], ◌∷◌, ◌++◌, Some, get_or, append-nil, append_assoc}
+use Rattle.std.proofs.Common.{ap, arith, length, refl, slice_get, subst, sym}
 use Rattle.vm_base.specs.Places.{PlaceRule}
 use Rattle.vm_base.specs.Plain.{Plain}
 use Rattle.audit.specs.Placing.{rule_of}

@@ -1,5 +1,6 @@
 -- Times of items
-use Rattle.std.proofs.Common.{◌≡◌, ℕ, zero, suc, ◌+◌, ◌<◌, ◌≤◌, ◌⊎◌, inl, inr, List, [], ◌∷◌, None, Some, ap, arith, length, max, refl, slice_get, subst, sym, ◌∙◌}
+use Rattle.std.proofs.Common.{◌≡◌, ℕ, zero, suc, ◌+◌, ◌<◌, ◌≤◌, ◌⊎◌, inl, inr, List, [], ◌∷◌, None, Some, ap, arith, length, max, refl, slice_get}
+use Rattle.std.proofs.Common.{subst, sym, ◌∙◌}
 use Rattle.orders.specs.declared.history.Item.{Item}
 use Rattle.orders.specs.declared.history.Timed.{Timed}
 use Rattle.orders.specs.Orders.{EachOnce, IsOf, KeepsTime, Precedes, call_of}

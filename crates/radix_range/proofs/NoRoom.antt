@@ -1,5 +1,6 @@
 -- Where no room begins: what keeps it known, and what it spares a search
-use Rattle.slot_lock.proofs.Words.{◌≡◌, ℕ, ◌+◌, ◌<◌, ◌≤◌, ◌⊎◌, inl, inr, ⊎_elim, Bool, true, false, Option, Some, None, is_some, List, All, sym, ap, ◌∙◌, subst, refl}
+use Rattle.slot_lock.proofs.Words.{◌≡◌, ℕ, ◌+◌, ◌<◌, ◌≤◌, ◌⊎◌, inl, inr, ⊎_elim, Bool, true, false, Option, Some, None, is_some, List, All, sym, ap}
+use Rattle.slot_lock.proofs.Words.{◌∙◌, subst, refl}
 use Rattle.slot_lock.proofs.Words.{arith, cases_lt, PageRange, PageInfo, Prot, Meta, NoneIn, by_test, has, has_in, in_has, info_with_prot}
 use Rattle.std.proofs.Common.{IfSome, IfNone, ◌==◌}
 use Rattle.std.proofs.lemmas.List.Elements.{All-weaker}

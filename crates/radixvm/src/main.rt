@@ -4,6 +4,7 @@
 #![tactic(auto)]
 
 use command_line::command::{WordsFault, program, refuse_words};
+use command_line::output::Noted;
 use command_line::terminals::Terminals;
 use live_script::OnThreads;
 use std::io::{BufWriter, IsTerminal};
@@ -13,7 +14,7 @@ use trace_io::sink::TrackedSink;
 fn main(rt: HostRuntime) -> ExitCode {
     let alloc = rt.alloc();
     let mut errors = rt.stderr();
-    let Ok(buffer) = BufWriter::new(alloc, rt.stdout()) else {
+    let Ok(buffer) = BufWriter::new(alloc, Noted::new(rt.stdout())) else {
         return ExitCode::from(refuse_words(WordsFault::NoMemory, &mut errors));
     };
     let mut out = TrackedSink::new(buffer);

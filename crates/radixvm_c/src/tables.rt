@@ -1,11 +1,13 @@
 //! The functions of a held machine that decides what real page tables may translate.
 ghost use Rattle.driven.specs.Driving.{both, TellsTouch, TellsChange, TellsGoOn, TellsTake};
+ghost use Rattle.driven.specs.Reclaiming.{TellsReclaim};
 ghost use Rattle.coded.specs.Holding.{state_in};
 
 use crate::EMPTY;
 use crate::handle::Handle;
 use coded::codes::{RawEvent, RawOutcome};
 use driven::driving::{RawDrop, RawFilled, change_on, drive_code, go_on_on, take_on, touch_on};
+use driven::reclaiming::reclaim_on;
 
 /// A page fault of the core at an address: a load, a store or a fetch.
 #[unsafe(no_mangle)]
@@ -70,4 +72,15 @@ pub extern "C" fn radixvm_take_held(handle: &mut Handle, core: u32, drop: &mut R
         return EMPTY;
     }
     drive_code(take_on(handle.get_mut(), core, drop))
+}
+
+/// Frames that nothing uses are brought back, and how many came is told.
+#[unsafe(no_mangle)]
+pub extern "C" fn radixvm_reclaim_held(handle: &mut Handle, frames: &mut u64) -> u32
+    ensures { TellsReclaim (state_in handle.old.value) frames.old result frames.new (state_in handle.new.value) }
+{
+    if !handle.is_open() {
+        return EMPTY;
+    }
+    drive_code(reclaim_on(handle.get_mut(), frames))
 }

@@ -6,6 +6,6 @@ mod Uses
 mod Steps
 mod Whole
 mod Waiting
-mod Driven
+pub mod Driven
 mod WholeExamples
 mod DrivenExamples

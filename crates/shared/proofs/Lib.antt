@@ -8,3 +8,4 @@ pub mod Serials
 pub mod Views
 pub mod TurnLemmas
 pub mod Keeping
+pub mod CallTurns

@@ -1,3 +1,5 @@
+pub mod FirstText
+pub mod Kept
 pub mod Lines
 pub mod Made
 pub mod Marking

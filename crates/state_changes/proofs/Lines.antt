@@ -1,6 +1,6 @@
 -- The state behind each line
 use Rattle.machine_model.proofs.Words.{append-nil, ◌≡◌, ℕ, zero, suc, ◌+◌, true, List, [], ◌∷◌, ◌++◌, refl, sym, ap, subst, ◌∙◌, Option}
-use Rattle.machine_model.proofs.Words.{None, World, Step, Run}
+use Rattle.machine_model.proofs.Words.{None, World, Run}
 use Rattle.machine_model.specs.declared.event.Event.{Event}
 use Rattle.machine_model.specs.declared.event.Event.TheVariants.{Go}
 use Rattle.machine_model.specs.declared.event.Outcome.{Outcome}
@@ -11,6 +11,8 @@ use Rattle.std.proofs.lemmas.List.{append_cancel_left}
 use Rattle.std.proofs.Math.Seq.{take-append_seam, drop-append_seam}
 use Rattle.radix_range.specs.Tree.{new_tree}
 use Rattle.radix_range.proofs.New.{new_tree_new}
+use Rattle.machine_model.proofs.SoundKept.{reached_opening}
+use Rattle.slot_lock.specs.MapWalks.{info_meta}
 use Rattle.core_steps.specs.declared.machine.Finished.{Finished}
 use Rattle.core_steps.specs.declared.machine.Finished.TheVariants.{Last, Stuck}
 use Rattle.trace_io.specs.Lines.{lines_of}
@@ -23,7 +25,7 @@ use Rattle.trace.specs.EventRuns.{Asks, AllAsk, AsksCall, AsksFinish}
 use Rattle.trace.specs.Seen.{IsSeen, SeesAll}
 use Rattle.trace.specs.Stage.{CanOpen, Declared, Running, Stage, Start, new_machine}
 use Rattle.watched.specs.Watching.{GoesUntil, Watches}
-use Rattle.state_seen.specs.Shown.{Follows, Seen}
+use Rattle.state_seen.specs.Shown.{Follows}
 use Rattle.state_text.specs.declared.form.Form.TheVariants.{Text}
 use Rattle.state_text.specs.Counts.{counts_text}
 use Rattle.state_text.proofs.New.{none_at_first}
@@ -35,7 +37,7 @@ use Rattle.core_steps.specs.MapLines.{ListsMaps}
 use Rattle.trace_text.specs.Listing.{maps_text}
 use Rattle.state_text.specs.Laws.{Knows}
 use Rattle.state_text.proofs.Watched.{opening, run_of, text_shown, watched}
-use Rattle.state_changes.specs.Recorded.{IsFresh, MomentOf, Recorded, Records, changed}
+use Rattle.state_changes.specs.Recorded.{IsFresh, MomentOf, Recorded, Records}
 use Rattle.state_changes.specs.Pages.{ShowsStates, all_changed, text_behind}
 use Rattle.state_changes.specs.Spans.{span_of}
 use Rattle.state_changes.proofs.Made.{Shows, counted, since, whole_back}
@@ -202,7 +204,10 @@ begins_so : (one : Recorded) (a : DeclarationView) → IsFresh one → Shows one
 unfolding maps_text
 begins_so one a fresh = record {
   maps = [];
+  slots = λ p low high. ap info_meta (new_tree_new.unmapped p);
   lists = none_mapped a;
+  kept = fresh.maps;
+  reached = λ few. reached_opening (made_by a) new_tree few new_tree_new;
   is = fresh.text ∙ sym (append-nil (seen_text Text [] one.seen))
       ∙ ap (λ l. seen_text Text [] one.seen ++ l) (sym (none_at_first Text (made_by a) new_tree));
 }

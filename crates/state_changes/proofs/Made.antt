@@ -1,6 +1,6 @@
 -- What is recorded of steps, one after another
 use Rattle.machine_model.proofs.Words.{◌≡◌, ◌≢◌, ℕ, zero, suc, ◌+◌, true, false, List, [], ◌∷◌, ◌++◌, refl, sym, ap, subst, ◌∙◌, None, Option}
-use Rattle.machine_model.proofs.Words.{World}
+use Rattle.machine_model.proofs.Words.{Bool, World}
 use Rattle.machine_model.specs.declared.event.Event.{Event}
 use Rattle.machine_model.specs.declared.event.Outcome.{Outcome}
 use Rattle.machine_model.specs.declared.event.Outcome.TheVariants.{Stepped, Wait, Idle, Answered, Full}
@@ -19,7 +19,13 @@ use Rattle.state_text.specs.declared.form.Form.TheVariants.{Text}
 use Rattle.state_text.specs.Counts.{counts_text}
 use Rattle.state_text.specs.Texts.{seen_text}
 use Rattle.trace_text.specs.Listing.{maps_text}
-use Rattle.state_changes.specs.Recorded.{MomentOf, Recorded, Records, changed, goes_on}
+use Rattle.std.specs.Option.{is_some}
+use Rattle.core_steps.specs.Changing.{may_change}
+use Rattle.machine_model.specs.Step.{Step}
+use Rattle.slot_lock.specs.MapList.{IsMapList}
+use Rattle.slot_lock.specs.MapWalks.{slot_metas}
+use Rattle.state_changes.specs.Recorded.{HasAdded, MomentOf, Recorded, Records, goes_on}
+use Rattle.state_changes.proofs.Kept.{AsReached, kept_slots, listed_maps, listed_slots, reached_now}
 use Rattle.state_changes.specs.Pages.{all_changed}
 use Rattle.state_changes.specs.Spans.{call_len, count_of, steps_to_end}
 
@@ -33,7 +39,10 @@ Marks (o ∷ os) [] = ⊥
 -- the text is that of what is seen now, of the state's mappings and of its counts
 pub record Shows (r : Recorded) (w : World) : Type 0 where
   pub maps : List MapLine
+  pub slots : IsMapList (slot_metas w.slots) maps
   pub lists : ListsMaps w maps
+  pub kept : r.maps ≡ maps_text maps
+  pub reached : AsReached w
   pub is : r.text ≡ seen_text Text (maps_text maps) r.seen ++ counts_text Text w
 
 -- what was recorded of some steps, which led to this state
@@ -46,6 +55,32 @@ pub record SinceOne (one : Recorded) (v : World) (other : Recorded) (os : List O
   pub marks : Marks os moments
   pub changes : all_changed one.text moments ≡ other.text
   pub shows : Shows other v
+
+-- a step more
+shows_on : (one : Recorded) (w : World) (e : Event) (o : Outcome) (v : World) (other : Recorded) (goes changes : Bool) → changes ≡ is_some (may_change w e)
+    → Step w e o v → HasAdded goes changes v one other → Shows one w → Shows other v
+shows_on one w e o v other goes true same step a s =
+    let r = reached_now w v e o step a.reached s.reached in
+    record {
+      maps = a.maps.0;
+      slots = listed_slots v r a.maps.0 a.maps.1;
+      lists = a.maps.1;
+      kept = a.maps.2;
+      reached = λ few. r;
+      is = a.shows ∙ ap (λ t. seen_text Text t other.seen ++ counts_text Text v) a.maps.2;
+    }
+shows_on one w e o v other goes false same step a s =
+    let r = reached_now w v e o step a.reached s.reached in
+    let slots = kept_slots w v e o s.maps step (sym same) s.slots in
+    let kept : other.maps ≡ maps_text s.maps = a.maps ∙ s.kept in
+    record {
+      maps = s.maps;
+      slots = slots;
+      lists = listed_maps v r s.maps slots;
+      kept = kept;
+      reached = λ few. r;
+      is = a.shows ∙ ap (λ t. seen_text Text t other.seen ++ counts_text Text v) kept;
+    }
 
 pub whole_back : (one : Recorded) (w : World) (es : List Event) (os : List Outcome) (v : World) (other : Recorded) → Watches Records one w es os v other
     → other.whole ≡ true → one.whole ≡ true
@@ -70,7 +105,7 @@ since one w (e ∷ es) (o ∷ os) v other r whole shows =
     let mid = r.1 in
     let there = whole_back mid r.0 es os v other r.4 whole in
     let one_more = r.3.added there in
-    let rest = since mid r.0 es os v other r.4 whole (record { maps = one_more.maps; lists = one_more.lists; is = one_more.shows }) in
+    let rest = since mid r.0 es os v other r.4 whole (shows_on one w e o r.0 mid _ _ refl r.2 one_more shows) in
     record {
       whole = r.3.whole there;
       seen = λ h. r.3.follows.whole (rest.seen h);
@@ -78,7 +113,7 @@ since one w (e ∷ es) (o ∷ os) v other r whole shows =
       moments = one_more.moment ∷ rest.moments;
       more = rest.more ∙ ap (λ l. l ++ rest.moments) one_more.moments ∙ append_assoc one.moments (one_more.moment ∷ []) rest.moments;
       marks = (one_more.goes_on, rest.marks);
-      changes = ap (λ t. all_changed t rest.moments) one_more.changes ∙ rest.changes;
+      changes = ap (λ t. all_changed t rest.moments) one_more.changes_to ∙ rest.changes;
       shows = rest.shows;
     }
 since one w [] (o ∷ os) v other r whole shows = absurd r

@@ -1,10 +1,11 @@
 -- Lines that are passed, one after another
-use Rattle.std.proofs.Common.{◌≡◌, ◌≢◌, ℕ, Bool, true, false, bytes_eq, List, [], ◌∷◌, ◌++◌, arith, length, refl, sym, ap, subst, ◌∙◌, append_assoc, append-nil, codes, Some, slice_get}
+use Rattle.std.proofs.Common.{◌≡◌, ◌≢◌, ℕ, Bool, true, false, bytes_eq, List, [], ◌∷◌, ◌++◌, arith, length, refl, sym, ap, subst, ◌∙◌, append_assoc}
+use Rattle.std.proofs.Common.{append-nil, codes, Some, slice_get}
 use Rattle.std.specs.List.{flat_map}
 use Rattle.std.proofs.lemmas.Grind.{flat_map-append}
 use Rattle.std.proofs.lemmas.Slice.Eq.{bytes_eq-Decides}
 use Rattle.trace_io.specs.Lines.{lines_of}
-use Rattle.state_changes.specs.Marks.{Comes, Goes, IsOther, LineMark, LinesDiffer, PassesLines, PassesOn, SaysDifference, mark_text}
+use Rattle.state_changes.specs.Marks.{Comes, Goes, IsOther, LineMark, LinesDiffer, PassesOn, SaysDifference, mark_text}
 
 -- nothing was passed yet
 pub passed_none : (out old new : List ℕ) → PassesOn out out old old new new
@@ -109,6 +110,7 @@ passed_then a b c old rest last new more end (one, x, p) (two, y, q) = (
   record {
     marks = p.marks ++ q.marks;
     says = ap (λ l. l ++ two) p.says ∙ ap (λ l. flat_map mark_text p.marks ++ l) q.says ∙ sym (flat_map-append mark_text p.marks q.marks);
-    on = λ later h. subst (λ ms. LinesDiffer ms (lines_of old) (lines_of new)) (sym (append_assoc p.marks q.marks later)) (p.on (q.marks ++ later) (q.on later h));
+    on = λ later h. subst (λ ms. LinesDiffer ms (lines_of old) (lines_of new)) (sym (append_assoc p.marks q.marks later)) (p.on (q.marks ++ later)
+        (q.on later h));
   },
 )

@@ -1,6 +1,7 @@
 -- One part more, applied or found
-use Rattle.std.proofs.Common.{◌≡◌, ℕ, zero, suc, ◌+◌, ◌<◌, ◌≤◌, List, [], ◌∷◌, ◌++◌, length, take, drop, get_or, refl, sym, ap, subst, ◌∙◌, arith, append_assoc, append-nil}
-use Rattle.std.proofs.lemmas.List.{drop_more, take-append-drop, take-append-le, length-take-le}
+use Rattle.std.proofs.Common.{◌≡◌, ℕ, zero, suc, ◌+◌, ◌<◌, ◌≤◌, List, [], ◌∷◌, ◌++◌, length, take, drop, get_or, refl, sym, ap, subst, ◌∙◌, arith}
+use Rattle.std.proofs.Common.{append_assoc, append-nil}
+use Rattle.std.proofs.lemmas.List.{drop_more, take-append-drop}
 use Rattle.state_changes.specs.declared.part.DiffOp.{DiffOp}
 use Rattle.state_changes.specs.declared.part.DiffOp.TheVariants.{Keep, Skip, Add}
 use Rattle.state_changes.specs.Applied.{IsNext, applied, fresh, given, kept, taken}
@@ -62,7 +63,8 @@ way_ends parts added before (x ∷ old) after new o n w = absurd (omega (arith, 
 way_ends parts added before [] after (x ∷ new) o n w = absurd (omega (arith, n))
 
 -- how many bytes it passes is within the texts
-pub next_fits : (p : DiffOp) (old new : List ℕ) → IsNext p old new → (fresh p ≤ length new) × (taken p ≤ length old) × (given p ≤ length new) × (0 < taken p + given p)
+pub next_fits : (p : DiffOp) (old new : List ℕ) → IsNext p old new → (fresh p ≤ length new) × (taken p ≤ length old) × (given p ≤ length new) ×
+    (0 < taken p + given p)
 next_fits (Keep n) old new is = (omega arith, is.1, is.2, omega (arith, is.0))
 next_fits (Skip n) old new is = (omega arith, is.1, omega arith, omega (arith, is.0))
 next_fits (Add n) old new is = (is.1, omega arith, is.1, omega (arith, is.0))
@@ -96,3 +98,23 @@ way_on p parts parts_now added added_now line before old old_now after new new_n
     (subst (λ x. IsPartWay (parts ++ p ∷ []) (added ++ take (fresh p) new) before x after new_now) (sym (o ∙ ap (λ x. drop x old) t))
     (subst (λ x. IsPartWay (parts ++ p ∷ []) (added ++ take (fresh p) new) before (drop (taken p) old) after x) (sym (e ∙ ap (λ x. drop x new) g))
     (way_goes p parts added before old after new is w))))
+
+-- ---- lines that are the same
+
+none_taken : (n : ℕ) (xs : List ℕ) → xs ≡ [] → take n xs ≡ []
+none_taken zero xs e = refl
+none_taken (suc n) [] e = refl
+none_taken (suc n) (x ∷ xs) e = absurd (cc)
+
+take_sum : (m n : ℕ) (xs : List ℕ) → take (m + n) xs ≡ take m xs ++ take n (drop m xs)
+take_sum zero n xs = let same : zero + n ≡ n = omega arith in ap (λ k. take k xs) same
+take_sum (suc m) n [] = none_taken (suc m + n) [] refl ∙ sym (none_taken n [] refl)
+take_sum (suc m) n (x ∷ xs) = let same : suc m + n ≡ suc (m + n) = omega arith in ap (λ k. take k (x ∷ xs)) same ∙ ap (λ l. x ∷ l) (take_sum m n xs)
+
+-- some more, of what is left of both
+pub same_more : (at count next : ℕ) (old new left right : List ℕ) → left ≡ drop at old → right ≡ drop at new → next ≡ at + count
+    → take count left ≡ take count right → take at old ≡ take at new → take next old ≡ take next new
+same_more at count next old new left right l r is more front =
+    ap (λ k. take k old) is ∙ take_sum at count old ∙ ap (λ f. f ++ take count (drop at old)) front
+    ∙ ap (λ f. take at new ++ f) (ap (take count) (sym l) ∙ more ∙ ap (take count) r)
+    ∙ sym (take_sum at count new) ∙ ap (λ k. take k new) (sym is)

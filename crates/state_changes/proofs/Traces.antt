@@ -1,5 +1,5 @@
 -- Who watched a trace's steps from the first on knows the state to which it leads.
-use Rattle.machine_model.proofs.Words.{◌≡◌, ℕ, true, List, [], ◌++◌, Option, None, Some, refl, sym, ap, subst, ◌∙◌, World, Run}
+use Rattle.machine_model.proofs.Words.{◌≡◌, ℕ, true, List, [], ◌++◌, Option, Some, refl, sym, ap, subst, ◌∙◌, World, Run}
 use Rattle.machine_model.specs.declared.event.Event.{Event}
 use Rattle.machine_model.specs.declared.event.Outcome.{Outcome}
 use Rattle.radix_range.specs.Tree.{new_tree}
@@ -9,16 +9,15 @@ use Rattle.trace_text.specs.Listing.{maps_text}
 use Rattle.trace.specs.Shown.{IsBehind}
 use Rattle.radix_range.proofs.New.{new_tree_new}
 use Rattle.trace_words.specs.Declarations.{DeclarationView, made_by}
-use Rattle.trace.specs.EventRuns.{AllAsk}
 use Rattle.trace.specs.Seen.{HasMachine, IsSeenWith, SeesAll}
 use Rattle.trace.specs.Stage.{CanOpen, Declared, Running, Stage, Start, new_machine}
 use Rattle.state_text.specs.declared.form.Form.{Form}
 use Rattle.state_text.specs.Counts.{counts_at, counts_text}
 use Rattle.state_text.proofs.New.{none_at_first}
-use Rattle.state_seen.specs.Shown.{Follows, IsNothing, IsShown, Seen}
+use Rattle.state_seen.specs.Shown.{Follows, IsNothing, Seen}
 use Rattle.state_text.specs.Texts.{seen_text, state_text}
 use Rattle.state_text.specs.Traces.{Told, told_text}
-use Rattle.state_changes.specs.Leads.{ComesTo, IsTold}
+use Rattle.state_changes.specs.Leads.{IsTold}
 use Rattle.state_text.specs.Laws.{Knows}
 use Rattle.state_text.proofs.Watched.{opening, run_of, text_shown, watched}
 
@@ -73,6 +72,7 @@ seen_state form one r machine input list n s whole = go s.0 s.1 s.2.opens s.2.ho
         maps = lists;
       },
       both (maps_text maps) w
-          (ap (λ t. seen_text form t r) (s.2.appends ∙ text) ∙ text_shown form (maps_text maps) r w (watched one (new_machine l.0) es os w r l.1 (start l.0) whole))
+          (ap (λ t. seen_text form t r) (s.2.appends ∙ text) ∙ text_shown form (maps_text maps) r w (watched one (new_machine l.0) es os w r l.1
+          (start l.0) whole))
           (ap (counts_at form) has),
     )

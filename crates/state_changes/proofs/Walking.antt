@@ -1,5 +1,6 @@
 -- The changes of lines, one after another
-use Rattle.std.proofs.Common.{◌≡◌, ℕ, zero, suc, ◌+◌, ◌<◌, List, [], ◌∷◌, ◌++◌, ◌⊎◌, inl, inr, arith, length, length-append, map, refl, sym, ap, subst, ◌∙◌, take, drop, drop-cons, get_or, Vec}
+use Rattle.std.proofs.Common.{◌≡◌, ℕ, zero, suc, ◌+◌, ◌<◌, List, [], ◌∷◌, ◌++◌, ◌⊎◌, inl, inr, arith, length, length-append, refl, sym, ap, subst}
+use Rattle.std.proofs.Common.{◌∙◌, take, drop, drop-cons, get_or, Vec}
 use Rattle.std.specs.declared.alloc.Global.{Global}
 use Rattle.state_changes.specs.Applied.{Differs, applied}
 use Rattle.trace_io.specs.Lines.{lines_of}

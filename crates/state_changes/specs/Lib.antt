@@ -2,8 +2,10 @@ pub mod Applied
 pub mod Behind
 pub mod Data
 pub mod Json
+pub mod Knowing
 pub mod Leads
 pub mod Marks
 pub mod Pages
 pub mod Recorded
+pub mod Seeking
 pub mod Spans

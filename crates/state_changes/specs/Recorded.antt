@@ -1,5 +1,8 @@
 -- What is recorded of a machine's steps
 use Rattle.std.specs.Prelude.{◌≡◌, ℕ, Bool, true, false, List, [], ◌∷◌, ◌++◌}
+use Rattle.std.specs.Option.{is_some}
+use Rattle.core_steps.specs.Changing.{may_change}
+use Rattle.machine_model.specs.Sound.{IsReached}
 use Rattle.machine_model.specs.World.{World}
 use Rattle.machine_model.specs.declared.event.Event.{Event}
 use Rattle.machine_model.specs.declared.event.Outcome.{Outcome}
@@ -23,12 +26,13 @@ pub record MomentOf : Type 0 where
   pub goes_on : Bool
   pub change : Differs
 
--- whether there was memory for all, what is seen of the state, the text of the first state, that of the state now, and
--- the steps so far
+-- whether there was memory for all, what is seen of the state, the text of the first state, those of the mappings and of the
+-- state now, and the steps so far
 pub record Recorded : Type 0 where
   pub whole : Bool
   pub seen : Seen
   pub first : List ℕ
+  pub maps : List ℕ
   pub text : List ℕ
   pub moments : List MomentOf
 
@@ -37,6 +41,7 @@ pub record IsFresh (r : Recorded) : Type 0 where
   pub whole : r.whole ≡ true
   pub seen : IsNothing r.seen
   pub first : r.first ≡ seen_text Text [] r.seen
+  pub maps : r.maps ≡ []
   pub text : r.text ≡ seen_text Text [] r.seen
   pub moments : r.moments ≡ []
 
@@ -44,20 +49,25 @@ pub record IsFresh (r : Recorded) : Type 0 where
 abbrev pub changed : List ℕ → MomentOf → List ℕ
 changed text m = applied m.change.parts m.change.added text
 
--- a step more, which led to this state: its change makes of the text so far that of what is seen now, of the state's mappings and of
--- its counts
-pub record HasAdded (goes : Bool) (v : World) (one other : Recorded) : Type 0 where
+-- the text of the mappings after a step: that of the state's, or the one before where the step changes no page
+abbrev pub KeepsMaps : Bool → World → List ℕ → List ℕ → Type 0
+KeepsMaps true v before after = (maps : List MapLine) × ListsMaps v maps × (after ≡ maps_text maps)
+KeepsMaps false v before after = after ≡ before
+
+-- a step more, which led to this state: its change makes of the text so far that of what is seen now, of the mappings and of the
+-- state's counts
+pub record HasAdded (goes changes : Bool) (v : World) (one other : Recorded) : Type 0 where
   pub moment : MomentOf
   pub moments : other.moments ≡ one.moments ++ moment ∷ []
   pub goes_on : moment.goes_on ≡ goes
-  pub changes : changed one.text moment ≡ other.text
-  pub maps : List MapLine
-  pub lists : ListsMaps v maps
-  pub shows : other.text ≡ seen_text Text (maps_text maps) other.seen ++ counts_text Text v
+  pub changes_to : changed one.text moment ≡ other.text
+  pub maps : KeepsMaps changes v one.maps other.maps
+  pub shows : other.text ≡ seen_text Text other.maps other.seen ++ counts_text Text v
+  pub reached : ∥ IsReached v ∥₁
 
 -- what is recorded after the step, where there was memory
 pub record Records (one : Recorded) (w : World) (e : Event) (o : Outcome) (v : World) (other : Recorded) : Type 0 where
   pub follows : Follows one.seen w e o v other.seen
   pub whole : other.whole ≡ true → one.whole ≡ true
   pub first : other.first ≡ one.first
-  pub added : other.whole ≡ true → HasAdded (goes_on o) v one other
+  pub added : other.whole ≡ true → HasAdded (goes_on o) (is_some (may_change w e)) v one other

@@ -11,8 +11,12 @@ use crate::{StateRecorder, StateStep};
 use std::alloc::{AllocError, Global};
 use trace_io::lines::front_line;
 
-// What the steps make of the text, one after another.
-fn text_after(alloc: Global, text: &[u8], moments: &[StateStep]) -> Result<Vec<u8>, AllocError>
+/// What the steps make of the text, one after another.
+pub(crate) fn text_after(
+    alloc: Global,
+    text: &[u8],
+    moments: &[StateStep],
+) -> Result<Vec<u8>, AllocError>
     ensures { IfOk result (λ after. after.items ≡ all_changed text.now moments.now) }
 {
     let mut after = Vec::new(alloc);

@@ -2,8 +2,26 @@
 ghost use Rattle.std.specs.Prelude.{◌≡◌, ◌+◌, ◌<◌, ◌≤◌, take, length};
 ghost use Rattle.state_changes.specs.Applied.{IsNext};
 
+use crate::marks::stands_in;
 use crate::part::DiffOp;
 use memchr::memchr;
+use trace_io::lines::front_line;
+
+// How many bytes the first line has, with its newline, where both texts begin with it, or 0.
+fn same_line(old: &[u8], new: &[u8]) -> usize
+    ensures old { result ≤ length old.now }
+    ensures new { result ≤ length new.now }
+    ensures same { take result old.now ≡ take result new.now }
+{
+    match memchr(b'\n', old) {
+        Some(end) if end < new.len() => {
+            let (line, _) = old.split_at(end + 1);
+            let (other, _) = new.split_at(end + 1);
+            if line == other { end + 1 } else { 0 }
+        }
+        _ => 0,
+    }
+}
 
 // How many bytes the first lines have that are the same in both texts.
 fn same_lines(old: &[u8], new: &[u8]) -> usize
@@ -12,15 +30,15 @@ fn same_lines(old: &[u8], new: &[u8]) -> usize
     ensures same { take result old.now ≡ take result new.now }
 {
     let mut at = 0;
-    let mut end = 0;
-    'bytes: while at < old.len() && at < new.len() && old[at] == new[at] {
-        let byte = old[at];
-        at += 1;
-        if byte == b'\n' {
-            end = at;
+    'lines: loop {
+        let (_, left) = old.split_at(at);
+        let (_, right) = new.split_at(at);
+        let count = same_line(left, right);
+        if count == 0 {
+            return at;
         }
+        at += count;
     }
-    end
 }
 
 // How many bytes the first line has, with its newline.
@@ -35,19 +53,6 @@ fn line_len(text: &[u8]) -> usize
     }
 }
 
-// Whether the line is one of the text's.
-fn stands_in(line: &[u8], text: &[u8]) -> bool {
-    let mut rest = text;
-    'lines: while !rest.is_empty() {
-        let (front, more) = rest.split_at(line_len(rest));
-        if front == line {
-            return true;
-        }
-        rest = more;
-    }
-    false
-}
-
 // What becomes of two lines that differ: that of the old text goes, unless it comes later in the new one.
 fn other_part(old: &[u8], new: &[u8]) -> DiffOp
     requires { 0 < length old.now + length new.now }
@@ -59,12 +64,11 @@ fn other_part(old: &[u8], new: &[u8]) -> DiffOp
     if new.is_empty() {
         return DiffOp::Skip(old.len());
     }
-    let count = line_len(old);
-    let (line, _) = old.split_at(count);
+    let (line, _) = front_line(old);
     if stands_in(line, new) {
         DiffOp::Add(line_len(new))
     } else {
-        DiffOp::Skip(count)
+        DiffOp::Skip(line_len(old))
     }
 }
 

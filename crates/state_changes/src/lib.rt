@@ -2,6 +2,7 @@
 //!
 //! - `behind` (`changes_of`), `recorder`, `spans`: states beside a line; `differing`, `finding`, `marks`, `part`,
 //!   `applying`: texts that differ.
+//! - `knowing`, `seeking`: what is said of a page, and the first state that has some words.
 //! - `data`, `json`, `listing`, `template`: the page of HTML that steps through a trace.
 //!
 //! It exists for `behind::changes_of`. The word `page` and `run --state` call it.
@@ -13,10 +14,12 @@ pub mod data;
 pub mod differing;
 mod finding;
 mod json;
+pub mod knowing;
 mod listing;
-mod marks;
+pub mod marks;
 pub mod part;
 pub mod recorder;
+pub mod seeking;
 pub mod spans;
 pub mod template;
 

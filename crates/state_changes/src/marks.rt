@@ -1,5 +1,8 @@
 //! The lines by which one text differs from another.
 ghost use Rattle.std.specs.Prelude.{◌≡◌, ◌++◌, ◌+◌, ◌<◌, [], IfOk, List, OnOk, codes, length, ℕ};
+ghost use Rattle.std.specs.List.{list_any};
+ghost use Rattle.std.specs.Str.{bytes_eq};
+ghost use Rattle.trace_io.specs.Lines.{lines_of};
 ghost use Rattle.state_changes.specs.Marks.{IsOther, PassesOn, SaysDifference};
 
 use std::alloc::{AllocError, Global};
@@ -14,12 +17,14 @@ fn put_mark(out: &mut Vec<u8>, sign: &str, line: &[u8]) -> Result<(), AllocError
     out.extend_from_slice(b"\n")
 }
 
-// Whether the line is one of the text's.
-fn stands_in(line: &[u8], text: &[u8]) -> bool {
+/// Whether the line is one of the text's.
+pub(crate) fn stands_in(line: &[u8], text: &[u8]) -> bool
+    ensures { result ≡ list_any (bytes_eq line.now) (lines_of text.now) }
+{
     let mut rest = text;
     'lines: while !rest.is_empty() {
         let (front, more) = front_line(rest);
-        if front == line {
+        if line == front {
             return true;
         }
         rest = more;
@@ -118,11 +123,7 @@ fn put_marks(out: &mut Vec<u8>, before: &[u8], after: &[u8]) -> Result<(), Alloc
 }
 
 /// The lines by which the text before differs from that after: a line `- LINE` for each that goes, `+ LINE` for each that comes.
-pub(crate) fn difference_text(
-    alloc: Global,
-    before: &[u8],
-    after: &[u8],
-) -> Result<Vec<u8>, AllocError>
+pub fn difference_text(alloc: Global, before: &[u8], after: &[u8]) -> Result<Vec<u8>, AllocError>
     ensures { IfOk result (λ text. SaysDifference text.items before.now after.now) }
 {
     let mut text = Vec::new(alloc);

@@ -1,11 +1,13 @@
 //! One who watches a machine's steps, and records what each changes in the text of the state.
-ghost use Rattle.std.specs.Prelude.{◌≡◌, ◌++◌, [], IfOk, true};
+ghost use Rattle.std.specs.Prelude.{◌≡◌, ◌++◌, [], IfOk, OnOk, true};
 ghost use Rattle.state_changes.specs.Applied.{Differs};
+ghost use Rattle.std.specs.Option.{is_some};
+ghost use Rattle.core_steps.specs.Changing.{may_change};
 ghost use Rattle.core_steps.specs.Machine.{state};
 ghost use Rattle.state_text.specs.Counts.{counts_text};
 ghost use Rattle.state_text.specs.declared.form.Form.TheVariants.{Text};
 ghost use Rattle.state_text.specs.Texts.{seen_text};
-ghost use Rattle.state_changes.specs.Recorded.{Recorded, Records, HasAdded, IsFresh, MomentOf, goes_on};
+ghost use Rattle.state_changes.specs.Recorded.{HasAdded, KeepsMaps, IsFresh, MomentOf, Recorded, Records, goes_on};
 
 use crate::listing::mappings_of;
 use crate::{Difference, difference_of};
@@ -45,6 +47,8 @@ pub struct StateRecorder {
     whole: bool,
     mirror: Mirror<Global>,
     first: Vec<u8>,
+    // The text of the mappings now.
+    maps: Vec<u8>,
     text: Vec<u8>,
     moments: Vec<StateStep>,
 }
@@ -58,6 +62,7 @@ impl Model for StateRecorder {
       whole = r.whole;
       seen = r.mirror;
       first = r.first.items;
+      maps = r.maps.items;
       text = r.text.items;
       moments = r.moments.items;
     } };
@@ -100,6 +105,21 @@ fn first_text(alloc: Global, mirror: &Mirror<Global>) -> Result<Vec<u8>, AllocEr
     Ok(text)
 }
 
+// Lists the machine's mappings anew, where the step may have changed some.
+fn renew_maps<M: SlotMap, A: Allocator + Clone, L: Ledger>(
+    alloc: Global,
+    maps: &mut Vec<u8>,
+    machine: &Machine<M, A, L>,
+    changes: bool,
+) -> Result<(), AllocError>
+    ensures { OnOk result (KeepsMaps changes (state machine.now) maps.old.items maps.new.items) }
+{
+    if changes {
+        *maps = mappings_of(alloc, machine)?;
+    }
+    Ok(())
+}
+
 // The text of what was seen, of these mappings, and of the machine's counts.
 fn text_of<M: SlotMap, A: Allocator + Clone, L: Ledger>(
     alloc: Global,
@@ -133,6 +153,7 @@ impl StateRecorder {
             whole: true,
             mirror,
             first,
+            maps: Vec::new(alloc),
             text,
             moments: Vec::new(alloc),
         })
@@ -159,19 +180,21 @@ impl StateRecorder {
         self.moments.as_slice()
     }
 
-    // Adds a step that led to what is seen now, and to the machine's mappings and counts. At an error the text and the steps are as before.
+    // Adds a step that led to what is seen now, and to the machine's mappings and counts, and may have changed pages. At an error the text
+    // and the steps are as before.
     fn add<M: SlotMap, A: Allocator + Clone, L: Ledger>(
         &mut self,
         machine: &Machine<M, A, L>,
         goes_on: bool,
+        changes: bool,
     ) -> Result<(), AllocError>
         ensures whole { self.new.whole ≡ self.old.whole }
         ensures seen { self.new.seen ≡ self.old.seen }
         ensures first { self.new.first ≡ self.old.first }
-        ensures added { IfOk result (λ u. HasAdded goes_on (state machine.now) self.old self.new) }
+        ensures added { IfOk result (λ u. HasAdded goes_on changes (state machine.now) self.old self.new) }
     {
-        let maps = mappings_of(self.alloc, machine)?;
-        let text = text_of(self.alloc, &self.mirror, maps.as_slice(), machine)?;
+        renew_maps(self.alloc, &mut self.maps, machine, changes)?;
+        let text = text_of(self.alloc, &self.mirror, self.maps.as_slice(), machine)?;
         let change = difference_of(self.alloc, self.text.as_slice(), text.as_slice())?;
         self.moments.push(StateStep { goes_on, change })?;
         self.text = text;
@@ -183,16 +206,28 @@ impl StateRecorder {
         &mut self,
         machine: &Machine<M, A, L>,
         goes_on: bool,
+        changes: bool,
     )
         ensures whole { self.new.whole ≡ true → self.old.whole ≡ true }
         ensures seen { self.new.seen ≡ self.old.seen }
         ensures first { self.new.first ≡ self.old.first }
-        ensures added { self.new.whole ≡ true → HasAdded goes_on (state machine.now) self.old self.new }
+        ensures added { self.new.whole ≡ true → HasAdded goes_on changes (state machine.now) self.old self.new }
     {
-        if self.add(machine, goes_on).is_err() {
+        if self.add(machine, goes_on, changes).is_err() {
             self.whole = false;
         }
     }
+}
+
+// Whether the event may change what pages have.
+fn may_change_pages<M: SlotMap, A: Allocator + Clone, L: Ledger>(
+    machine: &Machine<M, A, L>,
+    event: &Event,
+) -> bool
+    ensures { result ≡ is_some (may_change (state machine.now) event.now) }
+{
+    let range = machine.may_change(*event);
+    range.is_some()
 }
 
 impl Watch for StateRecorder {
@@ -203,11 +238,12 @@ impl Watch for StateRecorder {
         machine: &mut Machine<M, A, L>,
         event: Event,
     ) -> Result<Outcome, NoMemory> {
+        let changes = may_change_pages(machine, &event);
         let outcome = match self.mirror.step(machine, event) {
             Ok(outcome) => outcome,
             Err(refused) => return Err(refused),
         };
-        self.note(machine, goes_on(&outcome));
+        self.note(machine, goes_on(&outcome), changes);
         Ok(outcome)
     }
 }

@@ -4,3 +4,4 @@ pub mod Joined
 pub mod Members
 pub mod New
 pub mod Watched
+pub mod UsedFrames

@@ -1,5 +1,6 @@
 -- Who watches each step from the first on knows the state.
-use Rattle.machine_model.proofs.Words.{◌≡◌, ◌≢◌, arith, core_of, nat_tests, Some, ℕ, ◌<◌, ◌==◌, Bool, true, false, cond, refl, sym, ap, subst, ◌∙◌, List, [], ◌∷◌, ◌++◌, nat_lt}
+use Rattle.machine_model.proofs.Words.{◌≡◌, ◌≢◌, arith, core_of, nat_tests, Some, ℕ, ◌<◌, ◌==◌, Bool, true, false, cond, refl, sym, ap, subst, ◌∙◌}
+use Rattle.machine_model.proofs.Words.{List, [], ◌∷◌, ◌++◌, nat_lt}
 use Rattle.machine_model.proofs.Words.{put, eq_true, has, None, Option, Translation, Message, asked, members}
 use Rattle.machine_model.proofs.Words.{World, Made, Slots, new_world, Step, Run}
 use Rattle.machine_model.specs.declared.event.Event.{Event}

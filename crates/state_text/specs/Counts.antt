@@ -1,5 +1,5 @@
 -- The text of the counts by which frames come back
-use Rattle.std.specs.Prelude.{ℕ, ℤ, pos, Bool, true, false, cond, List, [], ◌∷◌, ◌++◌, Option, None, Some, codes, decimal, unsigned_abs, int_lt}
+use Rattle.std.specs.Prelude.{◌≡◌, ◌<◌, ◌≤◌, ℕ, ℤ, pos, Bool, true, false, cond, List, [], ◌∷◌, ◌++◌, Option, None, Some, codes, decimal, unsigned_abs, int_lt}
 use Rattle.std.specs.List.{concat, flat_map}
 use Rattle.refcache.specs.Counts.{true_count}
 use Rattle.refcache.specs.declared.reports.Queued.{Queued}
@@ -14,6 +14,10 @@ minus z = cond (int_lt z (pos 0)) (codes "-") []
 
 abbrev pub sign : ℤ → List ℕ
 sign z = cond (int_lt z (pos 0)) (codes "-") (codes "+")
+
+-- the frames from here on are free
+abbrev pub IsUsedEnd : World → ℕ → Type 0
+IsUsedEnd w end = (end ≤ w.made.frames) × ((f : ℕ) → end ≤ f → f < w.made.frames → w.memory.is_free f ≡ true)
 
 -- a core has this to add to the frame's global count
 unfoldable pub delta_line : Form → ℕ → ℕ → ℤ → List ℕ

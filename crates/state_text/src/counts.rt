@@ -3,7 +3,7 @@ ghost use Rattle.std.specs.Prelude.{◌≡◌, ◌<◌, ◌++◌, [], cond, opti
 ghost use Rattle.std.specs.List.{flat_map};
 ghost use Rattle.core_steps.specs.Machine.{state};
 ghost use Rattle.state_seen.specs.PageTexts.{texts_below};
-ghost use Rattle.state_text.specs.Counts.{core_counts, counts_at, counts_text, delta_line, delta_text, dirty_word, flushed_line};
+ghost use Rattle.state_text.specs.Counts.{IsUsedEnd, core_counts, counts_at, counts_text, delta_line, delta_text, dirty_word, flushed_line};
 ghost use Rattle.state_text.specs.Counts.{flushed_text, frame_counts, frame_line, minus, queue_line, sign, used_text};
 
 use crate::form::{Form, core_word, end_word};
@@ -105,18 +105,37 @@ fn put_used_delta<M: SlotMap, A: Allocator + Clone, L: Ledger>(
     put_delta(out, form, core, frame, machine.delta(core, frame))
 }
 
-// Appends what the core has to add to counts of frames.
+// The end of the frames in use: the frames from there on are free. No more frames are looked at.
+fn used_end<M: SlotMap, A: Allocator + Clone, L: Ledger>(machine: &Machine<M, A, L>) -> u32
+    ensures { IsUsedEnd (state machine.now) result }
+{
+    let frames = machine.frames();
+    let mut free = machine.free_frames();
+    'frames: for frame in 0..frames {
+        if free == frames - frame {
+            return frame;
+        }
+        if machine.is_free(frame) {
+            free -= 1;
+        }
+    }
+    frames
+}
+
+// Appends what the core has to add to counts of frames, where these are the frames in use.
 fn put_deltas<M: SlotMap, A: Allocator + Clone, L: Ledger>(
     out: &mut Vec<u8>,
     form: Form,
     machine: &Machine<M, A, L>,
     core: CoreId,
+    end: u32,
 ) -> Result<(), AllocError>
-    requires { core < (state machine.now).made.cores }
+    requires core { core < (state machine.now).made.cores }
+    requires end { IsUsedEnd (state machine.now) end }
     ensures { OnOk result (out.new.items ≡ out.old.items ++ used_text (state machine.now)
         (λ f. delta_text form core f ((state machine.now).memory.counts.delta core f))) }
 {
-    'frames: for frame in 0..machine.frames() {
+    'frames: for frame in 0..end {
         put_used_delta(out, form, machine, core, frame)?;
     }
     Ok(())
@@ -210,35 +229,39 @@ fn put_flushed(
     )
 }
 
-// Appends the counts of a core.
+// Appends the counts of a core, where these are the frames in use.
 fn put_core<M: SlotMap, A: Allocator + Clone, L: Ledger>(
     out: &mut Vec<u8>,
     form: Form,
     machine: &Machine<M, A, L>,
     core: CoreId,
+    end: u32,
 ) -> Result<(), AllocError>
-    requires { core < (state machine.now).made.cores }
+    requires core { core < (state machine.now).made.cores }
+    requires end { IsUsedEnd (state machine.now) end }
     ensures { OnOk result (out.new.items ≡ out.old.items ++ core_counts form (state machine.now) core) }
 {
     let has_flushed = machine.flushed().contains(core);
-    put_deltas(out, form, machine, core)?;
+    put_deltas(out, form, machine, core, end)?;
     put_reviews(out, form, machine, core)?;
     put_flushed(out, form, core, has_flushed)?;
     Ok(())
 }
 
-// Appends the counts of all cores.
+// Appends the counts of all cores, where these are the frames in use.
 fn put_cores<M: SlotMap, A: Allocator + Clone, L: Ledger>(
     out: &mut Vec<u8>,
     form: Form,
     machine: &Machine<M, A, L>,
+    end: u32,
 ) -> Result<(), AllocError>
+    requires { IsUsedEnd (state machine.now) end }
     ensures { OnOk result (out.new.items ≡ out.old.items
         ++ texts_below (core_counts form (state machine.now)) (state machine.now).made.cores) }
 {
     let cores = machine.cores() as u8;
     'cores: for core in 0..cores {
-        put_core(out, form, machine, CoreId::new(core))?;
+        put_core(out, form, machine, CoreId::new(core), end)?;
     }
     Ok(())
 }
@@ -307,16 +330,18 @@ fn put_frame<M: SlotMap, A: Allocator + Clone, L: Ledger>(
     put_frame_line(out, form, frame, count, global, is_dirty)
 }
 
-// Appends the counts of the frames in use.
+// Appends the counts of the frames in use, which end there.
 fn put_frames<M: SlotMap, A: Allocator + Clone, L: Ledger>(
     out: &mut Vec<u8>,
     form: Form,
     machine: &Machine<M, A, L>,
+    end: u32,
 ) -> Result<(), AllocError>
+    requires { IsUsedEnd (state machine.now) end }
     ensures { OnOk result (out.new.items ≡ out.old.items
         ++ used_text (state machine.now) (frame_counts form (state machine.now))) }
 {
-    'frames: for frame in 0..machine.frames() {
+    'frames: for frame in 0..end {
         put_frame(out, form, machine, frame)?;
     }
     Ok(())
@@ -332,8 +357,9 @@ pub fn put_counts<M: SlotMap, A: Allocator + Clone, L: Ledger>(
 ) -> Result<(), AllocError>
     ensures { OnOk result (out.new.items ≡ out.old.items ++ counts_text form (state machine.now)) }
 {
-    put_cores(out, form, machine)?;
-    put_frames(out, form, machine)?;
+    let end = used_end(machine);
+    put_cores(out, form, machine, end)?;
+    put_frames(out, form, machine, end)?;
     Ok(())
 }
 

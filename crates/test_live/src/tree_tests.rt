@@ -179,13 +179,16 @@ fn is_cut<R: Wait>(rt: &R, tree: &SharedTree<Global>, core: CoreId, first: u64, 
         return false;
     }
     let mut counter = Counter::new();
-    let slot = match tree.lock_next(rt, &mut counter, core, first, end) {
+    let mut slot = match tree.lock_next(rt, &mut counter, core, first, end) {
         Next::Whole(slot) => slot,
         Next::Owned(_guard) => return false,
         Next::Split | Next::Unseen | Next::NoMemory | Next::Lost => return false,
     };
     match tree.cut(&mut counter, core, &slot) {
-        SlotCut::Cut(_) => true,
+        SlotCut::Cut(division) => {
+            division.mark(&mut slot);
+            true
+        }
         SlotCut::Unseen(_) | SlotCut::NoMemory | SlotCut::Lost => false,
     }
 }
@@ -232,8 +235,8 @@ fn slot_at<R: Wait>(rt: &R, tree: &SharedTree<Global>, page: u64) -> Option<[u64
 // The pages of the slots that a fold at the page joins.
 fn folded(tree: &mut SharedTree<Global>, page: u64) -> Option<[u64; 3]> {
     let mut counter = Counter::new();
-    let joined = tree.fold(&mut counter, page)?;
-    Some([joined.first, joined.end, 0])
+    let pages = tree.fold(&mut counter, page)?.range();
+    Some([pages.first, pages.end, 0])
 }
 
 // What a row comes to that begins with pages.
@@ -249,7 +252,7 @@ fn told_of_pages<R: Wait>(
         "slots" => Some([tree.histories()?.slots().len() as u64, 0, 0]),
         "at" => slot_at(rt, tree, first),
         "count" => counted(rt, tree, first, end),
-        "room" => Some([tree.find_room(rt, first, end, count)?, 0, 0]),
+        "room" => Some([tree.find_room(rt, first, end, count)?.first(), 0, 0]),
         "put" => Some([
             u64::from(change(rt, tree, first, end, &Act::Put(FILE))),
             0,

@@ -2,10 +2,12 @@
 use crate::streams::{
     AMPLE, Dripping, Filling, Ran, dripping_of, ran_of, run_words, sink_of, text_of,
 };
+use command_line::output::Noted;
 use linked_list_allocator::LocalHeap;
 use live_script::InTurn;
 use machine_model::CallLimit;
 use std::alloc::Global;
+use std::io::Write;
 use std::sync::Wait;
 use std::test::Fail;
 use std::thread::Threads;
@@ -13,6 +15,7 @@ use trace_io::sink::TrackedSink;
 use trace_io::source::Counted;
 use trace_words::show::Show;
 use word_parts::asked::Shows;
+use word_parts::ended::Trouble;
 use word_runs::certifying::certify;
 use word_runs::job::{run, run_echoing};
 use word_runs::live::{certify_live, live};
@@ -51,16 +54,19 @@ fn do_in<T: Threads + Wait + Sync>(
     heap: &LocalHeap,
     word: &str,
     reader: &mut Counted<Dripping<'_>>,
-    out: &mut TrackedSink<Filling, Global>,
+    out: &mut TrackedSink<Noted<Filling>, Global>,
     errors: &mut Vec<u8>,
 ) -> u8 {
     let ended = match word {
         "run" => run(heap, reader, out, errors, LOGGED),
-        "echo" => run_echoing(heap, reader, out, errors, CallLimit::Usual, false, false),
-        "certify" => certify(heap, reader, out, errors),
+        "echo" => run_echoing(heap, reader, out, CallLimit::Usual, false, false),
+        "certify" => certify(heap, reader, out),
         "live" => live(rt, &InTurn, heap, reader, out, errors, false),
         _ => certify_live(rt, &InTurn, heap, reader, out, errors, false),
     };
+    if let Trouble::Fault(fault) = ended.trouble {
+        let _ = writeln!(errors, "radixvm: {fault}");
+    }
     ended.status
 }
 

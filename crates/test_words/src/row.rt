@@ -1,6 +1,7 @@
 //! A row, which is run and compared with what it says.
 use crate::text::{push_lines, push_text, push_words};
 use command_line::command::program;
+use command_line::output::Noted;
 use command_line::terminals::Terminals;
 use live_script::OnThreads;
 use std::alloc::Global;
@@ -70,7 +71,7 @@ fn came_of<F: Files, T: Threads + Wait + Sync>(
     words: &[u8],
     input: &[u8],
 ) -> Came {
-    let mut out = TrackedSink::unbuffered(alloc, Vec::new(alloc));
+    let mut out = TrackedSink::unbuffered(alloc, Noted::new(Vec::new(alloc)));
     let mut errors = Vec::new(alloc);
     let status = program(
         Words {
@@ -86,7 +87,7 @@ fn came_of<F: Files, T: Threads + Wait + Sync>(
         terminals_of(row),
     );
     Came {
-        out: out.writer.into_parts().0,
+        out: out.writer.into_parts().0.into_inner(),
         errors,
         status,
     }

@@ -21,7 +21,7 @@ vm 1 4; c0! mmap 0x10000 4096 rw- pfa; c0! load 0x10000
 radixvm run --summary
 vm 1 4; c0! load 0
 
-radixvm run --explain
+radixvm run --brief
 vm 1 4; c0! load 0
 
 radixvm maps
@@ -69,17 +69,23 @@ radixvm --help
 radixvm --version
 radixvm help trace";
 
-// Whether this fault is told, and a front of all that goes out has gone out.
-fn tells(ran: &Ran, fault: &[u8], all: &Ran) -> bool {
-    ran.errors.as_slice() == fault && ran.status == 3 && all.out.starts_with(&ran.out)
+// Whether this fault is told, with this status, and a front of all that goes out has gone out.
+fn tells(ran: &Ran, fault: &[u8], status: u8, all: &Ran) -> bool {
+    ran.errors.as_slice() == fault && ran.status == status && all.out.starts_with(&ran.out)
 }
 
 // What is told of a read that fails, which the streams let fail for no reason that has a name.
-fn read_failed(words: &str) -> &'static [u8] {
-    if words.ends_with("--explain") {
-        return b"radixvm: read failed\n  standard input: other error\n";
+const READ_FAILED: &[u8] = b"radixvm: standard input: read failed: other error\n";
+
+// What is told of a write that fails or takes no byte. Of a reader that has gone nothing is.
+fn write_failed(limits: Limits) -> &'static [u8] {
+    if limits.is_closed {
+        return b"";
     }
-    b"radixvm: read failed\n"
+    if limits.fails {
+        return b"radixvm: standard output: write failed: no storage space\n";
+    }
+    b"radixvm: standard output: write failed\n"
 }
 
 // Whether each read that fails is told, that of the end too.
@@ -92,7 +98,7 @@ fn tells_of_reads<T: Files + Threads + Wait + Sync>(
     for reads in 0..=input.len() as u64 {
         let limits = Limits { reads, ..AMPLE };
         let ran = run_words((alloc, rt), &alloc, words, input, limits);
-        if !tells(&ran, read_failed(words), &all) {
+        if !tells(&ran, READ_FAILED, 3, &all) {
             return false;
         }
     }
@@ -108,7 +114,8 @@ fn tells_of_write<T: Files + Threads + Wait + Sync>(
     all: &Ran,
 ) -> bool {
     let ran = run_words((alloc, rt), &alloc, words, input, limits);
-    tells(&ran, b"radixvm: write failed\n", all)
+    let status = if limits.is_closed { 141 } else { 3 };
+    tells(&ran, write_failed(limits), status, all)
 }
 
 // Whether each write that isn't taken is told, and a failing flush.

@@ -1,5 +1,6 @@
 //! Streams that fail, and the program over them.
 use command_line::command::program;
+use command_line::output::Noted;
 use command_line::terminals::NO_TERMINALS;
 use live_script::InTurn;
 use std::alloc::{Allocator, Global};
@@ -138,7 +139,7 @@ pub fn dripping_of(input: &[u8], limits: Limits) -> Dripping<'_> {
 }
 
 /// A writer without a buffer, which holds what it took.
-pub fn sink_of(alloc: Global, limits: Limits) -> TrackedSink<Filling, Global> {
+pub fn sink_of(alloc: Global, limits: Limits) -> TrackedSink<Noted<Filling>, Global> {
     let filling = Filling {
         held: Vec::new(alloc),
         writes: 0,
@@ -146,12 +147,12 @@ pub fn sink_of(alloc: Global, limits: Limits) -> TrackedSink<Filling, Global> {
         fails: limits.fails,
         is_closed: limits.is_closed,
     };
-    TrackedSink::unbuffered(alloc, filling)
+    TrackedSink::unbuffered(alloc, Noted::new(filling))
 }
 
 /// What came of a writer.
-pub fn ran_of(out: TrackedSink<Filling, Global>, errors: Vec<u8>, status: u8) -> Ran {
-    let filling = out.writer.into_parts().0;
+pub fn ran_of(out: TrackedSink<Noted<Filling>, Global>, errors: Vec<u8>, status: u8) -> Ran {
+    let filling = out.writer.into_parts().0.into_inner();
     Ran {
         writes: filling.writes,
         out: filling.held,

@@ -1,5 +1,6 @@
 -- What the steps of a line of an event give
-use Rattle.machine_model.proofs.Words.{◌≡◌, ℕ, Bool, List, Option, Some, None, false, true, inl, inr, Result, Ok, Err, refl, sym, ap, ◌∙◌, subst, IsSomeAnd, IfErr, if◌then◌else◌}
+use Rattle.machine_model.proofs.Words.{◌≡◌, ℕ, Bool, List, Option, Some, None, false, true, inl, inr, Result, Ok, Err, refl, sym, ap, ◌∙◌, subst}
+use Rattle.machine_model.proofs.Words.{IsSomeAnd, IfErr, if◌then◌else◌}
 use Rattle.machine_model.proofs.Words.{World, Made, new_world, Slots, IsNew, Request}
 use Rattle.machine_model.specs.declared.event.Outcome.{Outcome}
 use Rattle.machine_model.specs.declared.event.Outcome.TheVariants.{Stepped, Wait, Idle, Answered, Full}

@@ -1,5 +1,6 @@
 -- A decision looks at the pages of its footprint alone
-use Rattle.slot_lock.proofs.Words.{ℕ, Bool, is_some, Option, sym, ◌∙◌, ap, PageRange, PageInfo, Prot, is_recorded, File, PageEntry, is_mapped, HasPage, is_absent}
+use Rattle.slot_lock.proofs.Words.{ℕ, Bool, is_some, Option, sym, ◌∙◌, ap, PageRange, PageInfo, Prot, is_recorded, File, PageEntry, is_mapped}
+use Rattle.slot_lock.proofs.Words.{HasPage, is_absent}
 use Rattle.slot_lock.proofs.Words.{is_read_only}
 use Rattle.slot_lock.specs.declared.plan.Change.{Change}
 use Rattle.slot_lock.specs.declared.plan.Change.TheVariants.{Put, Clear, Protect}

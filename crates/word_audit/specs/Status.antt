@@ -12,7 +12,7 @@ use Rattle.overlapping.specs.declared.judging.Ruling.{Ruling}
 use Rattle.overlapping.specs.declared.judging.Ruling.TheVariants as By
 use Rattle.overlapping.specs.declared.replies.Judgement.{Judgement as ReplyJudgement}
 
--- of replies that are judged: 0 where they are legal, 1 where one isn't, 3 where that is undecided
+-- of replies that are judged: 0 where they are legal, 1 where one isn't, 4 where that is undecided
 abbrev pub audit_fault_status : AuditFault → ℕ
 audit_fault_status (For.BadLine number) = 2
 audit_fault_status (For.TooLong number) = 2
@@ -24,13 +24,13 @@ abbrev pub found_status : Option Verdict → ℕ
 found_status None = 0
 found_status (Some (Legal calls lacking passed)) = 0
 found_status (Some (Illegal line call due)) = 1
-found_status (Some (Undecided line call due)) = 3
+found_status (Some (Undecided line call due)) = 4
 
 abbrev pub audit_status : Result ReplyJudgement AuditFault → ℕ
 audit_status (Ok judgement) = found_status (Some (verdict_of judgement))
 audit_status (Err f) = audit_fault_status f
 
--- of a history of calls that overlap: 0 where they have an order, 1 where they have none, 3 where none was found
+-- of a history of calls that overlap: 0 where they have an order, 1 where they have none, 4 where none was found
 abbrev pub history_fault_status : HistoryFault → ℕ
 history_fault_status (Why.Io f) = 3
 history_fault_status _ = 2
@@ -38,7 +38,7 @@ history_fault_status _ = 2
 abbrev pub ruling_status : Ruling → ℕ
 ruling_status (By.Legal calls) = 0
 ruling_status (By.NoOrder line reply) = 1
-ruling_status (By.Undecided line) = 3
+ruling_status (By.Undecided line) = 4
 
 abbrev pub judgement_status : {A : Type 0} → Result (Ruled A) HistoryFault → ℕ
 judgement_status (Ok ruled) = ruling_status ruled.ruling

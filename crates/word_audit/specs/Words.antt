@@ -3,9 +3,7 @@ use Rattle.std.specs.Prelude.{◌≡◌, ◌⊎◌, ℕ, Bool}
 use Rattle.std.specs.Io.KnownBytes.{Keeps}
 use Rattle.overlapping.specs.Ends.{JudgementEnds, TellsJudgement}
 use Rattle.overlapping.specs.Replies.{AuditEnds}
-use Rattle.page_orders.specs.Ends.{EndsByPages}
 use Rattle.loosely.specs.Kernel.{EndsByKernel}
-use Rattle.loosely.specs.Loosely.{EndsLoosely}
 use Rattle.audit_text.specs.Ends.{TellsAudit}
 use Rattle.audit_text.specs.Reviewed.{ReviewEnds}
 use Rattle.audit_text.specs.declared.allowing.Terms.{Terms}
@@ -30,17 +28,7 @@ JudgesCalls A any_place text out n =
 abbrev pub JudgesOrGivesUp : Type 0 → Bool → ReadFrom → WrittenTo → ℕ → Type 0
 JudgesOrGivesUp A any_place text out n = JudgesCalls A any_place text out n ⊎ ((n ≡ 3) × Keeps out.before out.after)
 
--- the judgement of calls that overlap, where each page of a range changes at a moment of its own
-abbrev pub JudgesByPages : Type 0 → Bool → ReadFrom → WrittenTo → ℕ → Type 0
-JudgesByPages A any_place text out n =
-    EndsInOneWay judgement_status (λ input unread. EndsByPages {A = A} any_place input) TellsJudgement text out n
-
--- the same by the loose rule
-abbrev pub JudgesLoosely : Type 0 → Bool → ReadFrom → WrittenTo → ℕ → Type 0
-JudgesLoosely A any_place text out n =
-    EndsInOneWay judgement_status (λ input unread. EndsLoosely {A = A} any_place input) TellsJudgement text out n
-
--- by the rule that kernels keep
+-- the same by the rule that kernels keep
 abbrev pub JudgesByKernel : Type 0 → Bool → Bool → ReadFrom → WrittenTo → ℕ → Type 0
 JudgesByKernel A any_place moving text out n =
     EndsInOneWay judgement_status (λ input unread. EndsByKernel {A = A} any_place moving input) TellsJudgement text out n

@@ -1,4 +1,4 @@
-//! What the word `audit` does.
+//! What the command `audit` does.
 ghost use Rattle.std.specs.Prelude.{◌≡◌, ◌≤◌};
 ghost use Rattle.word_audit.specs.Status.{audit_fault_status, found_status, history_fault_status, ruling_status};
 ghost use Rattle.word_audit.specs.Words.{AuditsReplies, JudgesCalls, JudgesOrGivesUp, ReviewsReplies};
@@ -9,7 +9,6 @@ use orders_text::HistoryFault;
 use overlapping::{By, Ruling, audit_text, judge_overlapping};
 use radix_range::RadixMap;
 use std::alloc::Global;
-use std::io::Write;
 use trace_io::IoFault;
 use trace_io::sink::Sink;
 use trace_io::source::{Source, read_all};
@@ -17,22 +16,23 @@ use trace_words::fault::TraceFault;
 use word_parts::asked::Overlaps;
 use word_parts::ended::{Ended, Trouble};
 
-// What more can be told of: a fault of the text.
+// What is told of a fault.
 fn trouble_of(fault: AuditFault) -> Trouble {
-    match fault {
-        AuditFault::BadLine(number) => Trouble::Fault(TraceFault::BadLine(number)),
-        AuditFault::TooLong(number) => Trouble::Fault(TraceFault::TooLong(number)),
-        AuditFault::NoVmLine => Trouble::Fault(TraceFault::NoVmLine),
-        AuditFault::Io(_) => Trouble::Nothing,
-    }
+    Trouble::Fault(match fault {
+        AuditFault::BadLine(number) => TraceFault::BadLine(number),
+        AuditFault::TooLong(number) => TraceFault::TooLong(number),
+        AuditFault::NoVmLine => TraceFault::NoVmLine,
+        AuditFault::Io(IoFault::ReadFailed) => TraceFault::ReadFailed,
+        AuditFault::Io(IoFault::NoMemory) => TraceFault::NoMemory,
+        AuditFault::Io(IoFault::WriteFailed) => TraceFault::WriteFailed,
+    })
 }
 
-// Prints the fault as `radixvm: ` and its text, and answers the status: 2 where the text is at fault, 3 where its surroundings are.
-fn refuse<E: Write>(fault: AuditFault, errors: &mut E) -> Ended
+// How a judgement ends with this fault: with 2 where the text is at fault, 3 where the system is.
+fn refuse(fault: AuditFault) -> Ended
     ensures value { result.status ≡ audit_fault_status fault }
-    ensures within { result.status ≤ 3 }
+    ensures within { result.status ≤ 4 }
 {
-    let _ = writeln!(errors, "radixvm: {fault}");
     let status = match fault {
         AuditFault::BadLine(_) | AuditFault::TooLong(_) | AuditFault::NoVmLine => 2,
         AuditFault::Io(_) => 3,
@@ -46,7 +46,7 @@ fn refuse<E: Write>(fault: AuditFault, errors: &mut E) -> Ended
 // How the judgement of replies ended, of which this is the first wrong one, or what is said in its place.
 fn ended_at(first: Option<Verdict>) -> Ended
     ensures value { result.status ≡ found_status first }
-    ensures within { result.status ≤ 3 }
+    ensures within { result.status ≤ 4 }
 {
     match first {
         None | Some(Verdict::Legal { .. }) => Ended {
@@ -58,80 +58,70 @@ fn ended_at(first: Option<Verdict>) -> Ended
             trouble: Trouble::Illegal(line),
         },
         Some(Verdict::Undecided { line, .. }) => Ended {
-            status: 3,
+            status: 4,
             trouble: Trouble::Undecided(line),
         },
     }
 }
 
-/// Judges the replies of a text by these terms, in the order of its lines or in another one, prints a fault as `radixvm: ` and its text,
-/// and answers the status: 0 where all are legal, 1 where one isn't, 3 where that is undecided, or that of the fault.
-pub fn audit<S: Source, W: Sink, E: Write>(
-    alloc: Global,
-    reader: &mut S,
-    out: &mut W,
-    errors: &mut E,
-    terms: Terms,
-) -> Ended
+/// Judges the replies of a text by these terms, in the order of its lines or in another one, and answers how that ended: with 0 where all
+/// are legal, 1 where one isn't, 4 where that is undecided, or the status of an error.
+pub fn audit<S: Source, W: Sink>(alloc: Global, reader: &mut S, out: &mut W, terms: Terms) -> Ended
     ensures ends { AuditsReplies terms
         (read_from S.Source reader.old reader.new) (written_to W.Sink out.old out.new) result.status }
-    ensures within { result.status ≤ 3 }
+    ensures within { result.status ≤ 4 }
 {
     let Ok(map) = RadixMap::new(alloc) else {
-        return refuse(AuditFault::Io(IoFault::NoMemory), errors);
+        return refuse(AuditFault::Io(IoFault::NoMemory));
     };
     let Ok(other) = RadixMap::new(alloc) else {
-        return refuse(AuditFault::Io(IoFault::NoMemory), errors);
+        return refuse(AuditFault::Io(IoFault::NoMemory));
     };
     match audit_text(alloc, map, other, reader, out, terms) {
         Ok(judgement) => ended_at(Some(judgement.verdict())),
-        Err(fault) => refuse(fault, errors),
+        Err(fault) => refuse(fault),
     }
 }
 
 /// As `audit`, and goes on after a wrong reply: each one is reported.
-pub fn audit_each<S: Source, W: Sink, E: Write>(
+pub fn audit_each<S: Source, W: Sink>(
     alloc: Global,
     reader: &mut S,
     out: &mut W,
-    errors: &mut E,
     terms: Terms,
 ) -> Ended
     ensures ends { ReviewsReplies terms
         (read_from S.Source reader.old reader.new) (written_to W.Sink out.old out.new) result.status }
-    ensures within { result.status ≤ 3 }
+    ensures within { result.status ≤ 4 }
 {
     let Ok(map) = RadixMap::new(alloc) else {
-        return refuse(AuditFault::Io(IoFault::NoMemory), errors);
+        return refuse(AuditFault::Io(IoFault::NoMemory));
     };
     match audit_all(alloc, map, reader, out, terms) {
         Ok(first) => ended_at(first),
-        Err(fault) => refuse(fault, errors),
+        Err(fault) => refuse(fault),
     }
 }
 
-// Prints why a text is that of no history, as `radixvm: ` and its text, and answers the status.
-pub(crate) fn refuse_history<E: Write>(fault: HistoryFault, errors: &mut E) -> Ended
+// How a judgement ends where a text is that of no history.
+pub(crate) fn refuse_history(fault: HistoryFault) -> Ended
     ensures value { result.status ≡ history_fault_status fault }
-    ensures within { result.status ≤ 3 }
+    ensures within { result.status ≤ 4 }
 {
-    let _ = writeln!(errors, "radixvm: {fault}");
-    match fault {
-        HistoryFault::Io(_) => Ended {
-            status: 3,
-            trouble: Trouble::Nothing,
-        },
-        _ => Ended {
-            status: 2,
-            trouble: Trouble::History(fault),
-        },
+    let status = match fault {
+        HistoryFault::Io(_) => 3,
+        _ => 2,
+    };
+    Ended {
+        status,
+        trouble: Trouble::History(fault),
     }
 }
 
 // How the judgement of a history ended.
 pub(crate) fn ended_by(ruling: Ruling) -> Ended
     ensures value { result.status ≡ ruling_status ruling }
-    ensures within { result.status ≤ 3 }
+    ensures within { result.status ≤ 4 }
 {
     match ruling {
         Ruling::Legal(_) => Ended {
@@ -143,28 +133,27 @@ pub(crate) fn ended_by(ruling: Ruling) -> Ended
             trouble: Trouble::NoOrder(line),
         },
         Ruling::Undecided(line) => Ended {
-            status: 3,
+            status: 4,
             trouble: Trouble::Unordered(line),
         },
     }
 }
 
 // Judges calls that overlap, by an order that is come by so.
-fn judge_by<S: Source, W: Sink, E: Write>(
+fn judge_by<S: Source, W: Sink>(
     alloc: Global,
     by: By<'_>,
     reader: &mut S,
     out: &mut W,
-    errors: &mut E,
     overlaps: Overlaps,
     order: &mut Vec<u8>,
 ) -> Ended
     ensures ends { JudgesCalls Global overlaps.any_place
         (read_from S.Source reader.old reader.new) (written_to W.Sink out.old out.new) result.status }
-    ensures within { result.status ≤ 3 }
+    ensures within { result.status ≤ 4 }
 {
     let Ok(map) = RadixMap::new(alloc) else {
-        return refuse_history(HistoryFault::Io(IoFault::NoMemory), errors);
+        return refuse_history(HistoryFault::Io(IoFault::NoMemory));
     };
     let any_place = overlaps.any_place;
     match judge_overlapping(alloc, map, reader, out, any_place, by, overlaps.is_wanted) {
@@ -173,27 +162,26 @@ fn judge_by<S: Source, W: Sink, E: Write>(
             *order = ruled.order;
             ended_by(ruling)
         }
-        Err(fault) => refuse_history(fault, errors),
+        Err(fault) => refuse_history(fault),
     }
 }
 
-/// Judges a history of calls that overlap, prints a fault as `radixvm: ` and its text, and answers the status: 0 where they have an order,
-/// 1 where they have none, 3 where none was found, or that of the fault. The order is searched, or read from `list`. It is left in `order`.
-pub fn audit_overlapping<L: Source, S: Source, W: Sink, E: Write>(
+/// Judges a history of calls that overlap, and answers how that ended: with 0 where they have an order, 1 where they have none, 4 where none
+/// was found, or the status of an error. The order is searched, or read from `list`. It is left in `order`.
+pub fn audit_overlapping<L: Source, S: Source, W: Sink>(
     alloc: Global,
     list: &mut L,
     reader: &mut S,
     out: &mut W,
-    errors: &mut E,
     overlaps: Overlaps,
     order: &mut Vec<u8>,
 ) -> Ended
     ensures ends { JudgesOrGivesUp Global overlaps.any_place
         (read_from S.Source reader.old reader.new) (written_to W.Sink out.old out.new) result.status }
-    ensures within { result.status ≤ 3 }
+    ensures within { result.status ≤ 4 }
 {
     if !overlaps.is_given {
-        return judge_by(alloc, By::Search, reader, out, errors, overlaps, order);
+        return judge_by(alloc, By::Search, reader, out, overlaps, order);
     }
     match read_all(alloc, list) {
         Ok(given) => judge_by(
@@ -201,10 +189,9 @@ pub fn audit_overlapping<L: Source, S: Source, W: Sink, E: Write>(
             By::Given(given.as_slice()),
             reader,
             out,
-            errors,
             overlaps,
             order,
         ),
-        Err(fault) => refuse_history(HistoryFault::Io(fault), errors),
+        Err(fault) => refuse_history(HistoryFault::Io(fault)),
     }
 }

@@ -1,7 +1,5 @@
-//! What is said about a fault beside its text: the line, a caret below the place where it goes wrong, and what was expected there.
-ghost use Rattle.std.specs.Prelude.{◌≡◌, ◌≤◌, ◌⊎◌, length};
-ghost use Rattle.std.specs.Io.KnownBytes.{Keeps};
-ghost use Rattle.trace_words.specs.declared.fault.TraceFault.TheVariants as Of;
+//! What is said about an error in a text: its place, the line, a caret below where it goes wrong, and what was expected there.
+ghost use Rattle.std.specs.Prelude.{◌≤◌, length};
 
 use crate::forms::{TextKind, add_expected, is_line, reach};
 use crate::naming::explain_outcome;
@@ -11,9 +9,7 @@ use trace_text::number::read_number;
 use trace_text::{Line, first_word_is_vm, is_printable, read_line};
 use trace_words::fault::TraceFault;
 use word_parts::keeping::KeptText;
-use word_parts::pointing::{
-    Text, behind, expect, front, point, word_at, word_start, words_in, write_text,
-};
+use word_parts::pointing::{Report, Text, behind, front, word_at, word_start, words_in};
 
 /// What a text is read as, and how more is said about it.
 #[derive(Clone, Copy)]
@@ -22,10 +18,8 @@ pub struct Manner {
     pub kind: TextKind,
     /// How many calls it may ask for.
     pub limit: CallLimit,
-    /// Whether the word has a flag by which it may ask for more.
+    /// Whether the command has an option by which it may ask for more.
     pub may_be_long: bool,
-    /// Whether the caret is coloured.
-    pub coloured: bool,
 }
 
 // ---- bytes that may not stand in a text
@@ -74,116 +68,121 @@ fn sign_at(line: &[u8]) -> usize {
 }
 
 // Tells of the words of a line, from this place on to this one, of which not all are right.
-fn explain_part<E: Write>(manner: Manner, line: &[u8], (from, to): (usize, usize), errors: &mut E) {
+fn explain_part<E: Write>(
+    manner: Manner,
+    line: &[u8],
+    (from, to): (usize, usize),
+    report: &mut Report<'_, E>,
+) {
     let part = behind(front(line, to), from);
     let count = reach(manner.kind, part);
     let start = word_start(part, count);
-    point(line, from.saturating_add(start), manner.coloured, errors);
+    report.point(line, from.saturating_add(start));
     if part.get(start) == Some(&b'#') {
-        expect(
-            "no more words: a comment is a line whose first byte is #",
-            errors,
-        );
+        report.expect("no more words: a comment is a line whose first byte is #");
         return;
     }
     let mut text = Text::new();
     let _ = text.try_extend_from_slice(b"  expected ");
     add_expected(&mut text, manner.kind, part, count);
-    write_text(&mut text, errors);
+    report.write(&mut text);
 }
 
 // Tells of the line of an event with what it came to.
-fn explain_event<E: Write>(manner: Manner, line: &[u8], errors: &mut E) {
+fn explain_event<E: Write>(manner: Manner, line: &[u8], report: &mut Report<'_, E>) {
     if manner.kind == TextKind::Notes && read_number(word_at(line, 0)).is_none() {
-        point(line, word_start(line, 0), manner.coloured, errors);
-        expect(
-            "a ticket, which is a number below 2^64, before the event",
-            errors,
-        );
+        report.point(line, word_start(line, 0));
+        report.expect("a ticket, which is a number below 2^64, before the event");
         return;
     }
     let from = event_start(manner.kind, line);
     let sign = sign_at(line);
     if is_line(manner.kind, behind(front(line, sign), from)) {
-        explain_outcome(manner.kind, line, sign, manner.coloured, errors);
+        explain_outcome(manner.kind, line, sign, report);
     } else {
-        explain_part(manner, line, (from, sign), errors);
+        explain_part(manner, line, (from, sign), report);
     }
 }
 
 // Tells of a bad line whose words are no line's of the text.
-fn explain_words<E: Write>(manner: Manner, line: &[u8], errors: &mut E) {
+fn explain_words<E: Write>(manner: Manner, line: &[u8], report: &mut Report<'_, E>) {
     let is_declaration = matches!(word_at(line, 0), b"vm" | b"file");
     match manner.kind {
         TextKind::Notes | TextKind::Replies if !is_declaration => explain_event(
-            manner, line, errors,
+            manner, line, report,
         ),
         TextKind::Notes => {
             let declaring = Manner {
                 kind: TextKind::Trace,
                 ..manner
             };
-            explain_part(declaring, line, (0, line.len()), errors);
+            explain_part(declaring, line, (0, line.len()), report);
         }
-        _ => explain_part(manner, line, (0, line.len()), errors),
+        _ => explain_part(manner, line, (0, line.len()), report),
     }
 }
 
 // ---- lines that say something, and not at this place
 
 // Tells of a `vm` line: a second one, or one of notes without CALLS.
-fn explain_space<E: Write>(manner: Manner, line: &[u8], errors: &mut E) {
+fn explain_space<E: Write>(manner: Manner, line: &[u8], report: &mut Report<'_, E>) {
     if manner.kind == TextKind::Notes && words_in(line) == 3 {
-        point(line, line.len(), manner.coloured, errors);
-        expect("CALLS, which the vm line of notes always has", errors);
+        report.point(line, line.len());
+        report.expect("CALLS, which the vm line of notes always has");
         return;
     }
-    point(line, word_start(line, 0), manner.coloured, errors);
-    expect("one vm line, before all others", errors);
+    report.point(line, word_start(line, 0));
+    report.expect("one vm line, before all others");
 }
 
 // Tells of a line that says something, and not at this place.
-fn explain_place<E: Write>(manner: Manner, said: Line, line: &[u8], errors: &mut E) {
+fn explain_place<E: Write>(manner: Manner, said: Line, line: &[u8], report: &mut Report<'_, E>) {
     match said {
-        Line::Space { .. } => explain_space(manner, line, errors),
+        Line::Space { .. } => explain_space(manner, line, report),
         Line::File { .. } => {
-            point(line, word_start(line, 1), manner.coloured, errors);
-            expect(
-                "the files' numbers to be 0, 1, 2 and so on, all before the first event",
-                errors,
-            );
+            report.point(line, word_start(line, 1));
+            report.expect("the files' numbers to be 0, 1, 2 and so on, all before the first event");
         }
         _ if is_line(manner.kind, line) && manner.kind == TextKind::Script => {
-            point(line, word_start(line, 0), manner.coloured, errors);
-            expect("a core of the vm line, whose cores are c0 and on", errors);
+            report.point(line, word_start(line, 0));
+            report.expect("a core of the vm line, whose cores are c0 and on");
         }
-        _ => explain_words(manner, line, errors),
+        _ => explain_words(manner, line, report),
     }
 }
 
 // Tells of a bad line.
-fn explain_bad<E: Write>(manner: Manner, line: &[u8], errors: &mut E) {
+fn explain_bad<E: Write>(manner: Manner, line: &[u8], report: &mut Report<'_, E>) {
     if !is_printable(line) {
         let at = first_unprintable(line);
-        point(line, at, manner.coloured, errors);
-        expect(byte_rule(line.get(at)), errors);
+        report.point(line, at);
+        report.expect(byte_rule(line.get(at)));
         return;
     }
     match read_line(line) {
-        Some(said) => explain_place(manner, said, line, errors),
-        None => explain_words(manner, line, errors),
+        Some(said) => explain_place(manner, said, line, report),
+        None => explain_words(manner, line, report),
     }
 }
 
 // ---- the vm line and the lines of files
 
-// The line of the text that comes after this many whose first word is this.
-fn line_of<'a>(text: &'a [u8], name: &[u8], before: u64) -> Option<&'a [u8]> {
+// A line of a text, and its number.
+#[derive(Clone, Copy)]
+struct Numbered<'a> {
+    number: u64,
+    line: &'a [u8],
+}
+
+// The line that comes after this many whose first word is this.
+fn line_of<'a>(kept: &'a KeptText, name: &[u8], before: u64) -> Option<Numbered<'a>> {
     let mut count = 0u64;
-    for line in text.split(|byte| *byte == b'\n') {
+    let mut number = kept.before();
+    for line in kept.text().split(|byte| *byte == b'\n') {
+        number = number.saturating_add(1);
         if word_at(line, 0) == name {
             if count == before {
-                return Some(line);
+                return Some(Numbered { number, line });
             }
             count = count.saturating_add(1);
         }
@@ -192,13 +191,15 @@ fn line_of<'a>(text: &'a [u8], name: &[u8], before: u64) -> Option<&'a [u8]> {
 }
 
 // The first line of a file that is longer than it may be.
-fn long_file(text: &[u8]) -> Option<&[u8]> {
-    for line in text.split(|byte| *byte == b'\n') {
+fn long_file(kept: &KeptText) -> Option<Numbered<'_>> {
+    let mut number = kept.before();
+    for line in kept.text().split(|byte| *byte == b'\n') {
+        number = number.saturating_add(1);
         if word_at(line, 0) == b"file".as_slice()
             && let Some(len) = read_number(word_at(line, 3))
             && len > 1_048_576
         {
-            return Some(line);
+            return Some(Numbered { number, line });
         }
     }
     None
@@ -206,28 +207,25 @@ fn long_file(text: &[u8]) -> Option<&[u8]> {
 
 // Tells that no line is the first with words, or of the one that is and isn't the vm line. Where it is the vm line, only lines in front
 // of it were asked for.
-fn explain_first<E: Write>(manner: Manner, text: &[u8], errors: &mut E) {
-    for line in text.split(|byte| *byte == b'\n') {
+fn explain_first<E: Write>(manner: Manner, kept: &KeptText, report: &mut Report<'_, E>) {
+    let mut number = kept.before();
+    for line in kept.text().split(|byte| *byte == b'\n') {
+        number = number.saturating_add(1);
         if !matches!(read_line(line), Some(Line::Blank)) {
             if first_word_is_vm(line) {
-                expect(
-                    "the vm line, or one behind it: no machine is there before it",
-                    errors,
-                );
+                report.expect("the vm line, or one after it: there is no machine before it");
                 return;
             }
-            point(line, word_start(line, 0), manner.coloured, errors);
+            report.is_at(number);
+            report.point(line, word_start(line, 0));
             break;
         }
     }
     if manner.kind == TextKind::Notes {
-        expect("vm CORES FRAMES CALLS as the first line with words", errors);
+        report.expect("vm CORES FRAMES CALLS as the first line with words");
         return;
     }
-    expect(
-        "vm CORES FRAMES, or vm CORES FRAMES CALLS, as the first line with words",
-        errors,
-    );
+    report.expect("vm CORES FRAMES, or vm CORES FRAMES CALLS, as the first line with words");
 }
 
 // How many calls may be asked for with --long.
@@ -249,67 +247,75 @@ fn setup_rule(fault: SetupFault, limit: CallLimit) -> &'static str {
 }
 
 // The line that the fault is of, and the word of it that asks for too much.
-fn setup_place(fault: SetupFault, text: &[u8]) -> (Option<&[u8]>, usize) {
+fn setup_place(fault: SetupFault, kept: &KeptText) -> (Option<Numbered<'_>>, usize) {
     match fault {
-        SetupFault::Cores => (line_of(text, b"vm", 0), 1),
-        SetupFault::Frames => (line_of(text, b"vm", 0), 2),
-        SetupFault::Calls => (line_of(text, b"vm", 0), 3),
-        SetupFault::TooManyFiles => (line_of(text, b"file", 16), 0),
-        SetupFault::FileTooLong => (long_file(text), 3),
-        SetupFault::NoMemory => (line_of(text, b"vm", 0), 0),
+        SetupFault::Cores => (line_of(kept, b"vm", 0), 1),
+        SetupFault::Frames => (line_of(kept, b"vm", 0), 2),
+        SetupFault::Calls => (line_of(kept, b"vm", 0), 3),
+        SetupFault::TooManyFiles => (line_of(kept, b"file", 16), 0),
+        SetupFault::FileTooLong => (long_file(kept), 3),
+        SetupFault::NoMemory => (line_of(kept, b"vm", 0), 0),
     }
 }
 
 // Writes what was expected in place of the word with this index, which is named where it isn't the first.
-fn expect_other<E: Write>(rule: &str, line: &[u8], index: usize, errors: &mut E) {
+fn expect_other<E: Write>(rule: &str, line: &[u8], index: usize, report: &mut Report<'_, E>) {
     match str::from_utf8(word_at(line, index)) {
         Ok(asked) if index > 0 => {
-            let _ = writeln!(errors, "  expected {rule}, and not {asked}");
+            let mut text = Text::new();
+            for part in ["  expected ", rule, ", and not ", asked] {
+                let _ = text.try_extend_from_slice(part.as_bytes());
+            }
+            report.write(&mut text);
         }
-        _ => expect(rule, errors),
+        _ => report.expect(rule),
     }
 }
 
-// Writes how many calls may be asked for with --long.
-fn tell_long<E: Write>(errors: &mut E) {
-    let _ = writeln!(errors, "  with --long it may be up to {MOST_CALLS}");
-}
-
 // Tells of what the vm line and the lines of files ask for.
-fn explain_setup<E: Write>(manner: Manner, fault: SetupFault, text: &[u8], errors: &mut E) {
+fn explain_setup<E: Write>(
+    manner: Manner,
+    fault: SetupFault,
+    kept: &KeptText,
+    report: &mut Report<'_, E>,
+) {
     let rule = setup_rule(fault, manner.limit);
-    let (Some(line), index) = setup_place(fault, text) else {
-        expect(rule, errors);
+    let (Some(found), index) = setup_place(fault, kept) else {
+        report.expect(rule);
         return;
     };
-    point(line, word_start(line, index), manner.coloured, errors);
-    expect_other(rule, line, index, errors);
+    let line = found.line;
+    report.is_at(found.number);
+    report.point(line, word_start(line, index));
+    expect_other(rule, line, index, report);
     let asked = read_number(word_at(line, index)).unwrap_or(0);
     if fault == SetupFault::Calls && manner.may_be_long && asked <= MOST_CALLS {
-        tell_long(errors);
+        report.tell("with --long it may be up to 1099511627776");
     }
 }
 
 // ---- all faults
 
-/// Writes what is known of a fault beside its text, of which this is kept: the line, a caret below the place where it goes wrong,
-/// and what was expected. Nothing for a read, a write or memory that failed.
-pub fn explain<E: Write>(fault: TraceFault, manner: Manner, kept: &KeptText, errors: &mut E)
-    ensures quiet { (fault ≡ Of.ReadFailed) ⊎ (fault ≡ Of.NoMemory) ⊎ (fault ≡ Of.WriteFailed)
-        → Keeps (E.contents errors.old) (E.contents errors.new) }
-{
+/// Says what is known of an error and its place: the line, a caret below the place where it goes wrong, and what was expected. Of a read, a
+/// write or memory that failed nothing is known here.
+pub fn explain<E: Write>(
+    fault: TraceFault,
+    manner: Manner,
+    kept: &KeptText,
+    report: &mut Report<'_, E>,
+) {
     match fault {
         TraceFault::BadLine(number) => {
             if let Some(line) = kept.line(number) {
-                explain_bad(manner, line, errors);
+                explain_bad(manner, line, report);
             }
         }
-        TraceFault::NoVmLine => explain_first(manner, kept.text(), errors),
+        TraceFault::NoVmLine => explain_first(manner, kept, report),
         TraceFault::TooLong(_) if manner.kind == TextKind::Replies => {
-            expect("at most 512 bytes in a line", errors);
+            report.expect("at most 512 bytes in a line");
         }
-        TraceFault::TooLong(_) => expect("at most 256 bytes in a line", errors),
-        TraceFault::Setup(fault) => explain_setup(manner, fault, kept.text(), errors),
+        TraceFault::TooLong(_) => report.expect("at most 256 bytes in a line"),
+        TraceFault::Setup(fault) => explain_setup(manner, fault, kept, report),
         TraceFault::ReadFailed | TraceFault::NoMemory | TraceFault::WriteFailed => {}
     }
 }

@@ -2,7 +2,7 @@
 
 use crate::forms::TextKind;
 use std::io::Write;
-use word_parts::pointing::{behind, expect, point, tell, word_at, word_start};
+use word_parts::pointing::{Report, Text, behind, word_at, word_start};
 
 // The replies that have no number.
 const REPLIES: &[&str] = &[
@@ -72,31 +72,34 @@ fn named_rule(kind: TextKind) -> &'static str {
 }
 
 // Tells what the reply may be.
-fn tell_replies<E: Write>(kind: TextKind, errors: &mut E) {
-    expect(outcome_rule(kind), errors);
-    tell(
-        "which is an address as 0x1000, a byte, done, einval, enomem, ebadf,",
-        errors,
-    );
-    tell(
-        "eoverflow, eacces, segv maperr, segv accerr, bus, noframe or nomemory",
-        errors,
-    );
+fn tell_replies<E: Write>(kind: TextKind, report: &mut Report<'_, E>) {
+    report.expect(outcome_rule(kind));
+    report.tell("which is an address as 0x1000, a byte, done, einval, enomem, ebadf,");
+    report.tell("eoverflow, eacces, segv maperr, segv accerr, bus, noframe or nomemory");
 }
 
 // Tells of an outcome that is none, or that can't be read as it is written.
-fn explain_named<E: Write>(kind: TextKind, line: &[u8], outcome: &[u8], errors: &mut E) {
+fn explain_named<E: Write>(
+    kind: TextKind,
+    line: &[u8],
+    outcome: &[u8],
+    report: &mut Report<'_, E>,
+) {
     if let Some(rule) = passed_rule(kind, line) {
-        expect(rule, errors);
+        report.expect(rule);
         return;
     }
     let found = named_so(outcome, REPLIES).or(named_so(outcome, STEPS));
     match found {
-        Some(name) if outcome == name.as_bytes() => expect(named_rule(kind), errors),
+        Some(name) if outcome == name.as_bytes() => report.expect(named_rule(kind)),
         Some(name) => {
-            let _ = writeln!(errors, "  expected {name}, in small letters");
+            let mut text = Text::new();
+            for part in ["  expected ", name, ", in small letters"] {
+                let _ = text.try_extend_from_slice(part.as_bytes());
+            }
+            report.write(&mut text);
         }
-        None => tell_replies(kind, errors),
+        None => tell_replies(kind, report),
     }
 }
 
@@ -105,26 +108,20 @@ pub fn explain_outcome<E: Write>(
     kind: TextKind,
     line: &[u8],
     sign: usize,
-    coloured: bool,
-    errors: &mut E,
+    report: &mut Report<'_, E>,
 ) {
-    point_behind(line, sign, coloured, errors);
+    point_behind(line, sign, report);
     let outcome = trimmed(behind(line, sign.saturating_add(1)));
     if outcome.is_empty() {
-        expect("= and what it came to, behind the event", errors);
+        report.expect("= and what it came to, after the event");
         return;
     }
-    explain_named(kind, line, outcome, errors);
+    explain_named(kind, line, outcome, report);
 }
 
 // Writes the line, with a caret below the first word after the sign.
-fn point_behind<E: Write>(line: &[u8], sign: usize, coloured: bool, errors: &mut E) {
+fn point_behind<E: Write>(line: &[u8], sign: usize, report: &mut Report<'_, E>) {
     let from = sign.saturating_add(1);
     let word = word_start(behind(line, from), 0);
-    point(
-        line,
-        from.saturating_add(word).min(line.len()),
-        coloured,
-        errors,
-    );
+    report.point(line, from.saturating_add(word).min(line.len()));
 }

@@ -1,12 +1,22 @@
-//! What is said beside a text that was read: of lines that may be mistakes, and of the reply that is illegal.
+//! What is said of a text that was read: of lines that may be mistakes, and of the reply that is illegal.
 
-use crate::explain::Manner;
 use crate::forms::TextKind;
 use std::io::Write;
 use trace_text::{Action, Line, read_line};
 use vm_base::{CoreId, Flags, Request};
 use word_parts::keeping::KeptText;
-use word_parts::pointing::{behind, point, show_line, tell, word_at, word_start};
+use word_parts::pointing::{Report, behind, word_at, word_start};
+
+/// A line of a text, or all lines before it.
+#[derive(Clone, Copy)]
+pub struct Place<'a> {
+    /// The text's name.
+    pub name: &'a str,
+    /// The line's number.
+    pub number: u64,
+    /// Whether a caret has a colour.
+    pub is_coloured: bool,
+}
 
 // ---- lines that are taken, and may be mistakes
 
@@ -60,9 +70,9 @@ fn flags_of(said: Line) -> Option<Flags> {
 fn flags_rule(flags: Flags) -> Option<&'static str> {
     match (flags.private, flags.shared) {
         (false, false) => Some(
-            "FLAGS has neither p nor s, of which mmap needs one: this reads einval",
+            "note: FLAGS has neither p nor s, of which mmap needs one: this reads einval",
         ),
-        (true, true) => Some("FLAGS has p and s, of which mmap needs just one: this reads einval"),
+        (true, true) => Some("note: FLAGS has p and s, of which mmap needs one: this reads einval"),
         _ => None,
     }
 }
@@ -74,18 +84,24 @@ fn rule_of(line: &[u8]) -> Option<&'static str> {
     flags_rule(flags)
 }
 
-// Writes a note of the line with this number.
-fn tell_note<E: Write>(number: u64, what: &str, errors: &mut E) {
-    let _ = writeln!(errors, "note: line {number}: {what}");
+// Says that the line with this number may be a mistake, and shows the place.
+fn tell_note<E: Write>(place: Place<'_>, what: &str, line: &[u8], index: usize, errors: &mut E) {
+    let mut report = Report::new(
+        errors,
+        place.name,
+        Some(place.number),
+        what,
+        place.is_coloured,
+    );
+    report.point(line, word_start(line, index));
 }
 
 // Tells of a core that the vm line doesn't give, if none was told of, and answers whether one was by then.
 fn notice_core<E: Write>(
     is_told: bool,
     cores: u64,
-    number: u64,
+    place: Place<'_>,
     line: &[u8],
-    coloured: bool,
     errors: &mut E,
 ) -> bool {
     let Some(core) = core_of(line) else {
@@ -94,43 +110,32 @@ fn notice_core<E: Write>(
     if is_told || u64::from(core.index()) < cores {
         return is_told;
     }
-    tell_note(
-        number,
-        "the vm line gives no such core: its lines read idle",
-        errors,
-    );
-    point(line, word_start(line, 0), coloured, errors);
+    let what = "note: the vm line gives no such core: its lines read idle";
+    tell_note(place, what, line, 0, errors);
     true
 }
 
 // Tells of flags that no mapping may have, if none were told of, and answers whether some were by then.
-fn notice_flags<E: Write>(
-    is_told: bool,
-    number: u64,
-    line: &[u8],
-    coloured: bool,
-    errors: &mut E,
-) -> bool {
+fn notice_flags<E: Write>(is_told: bool, place: Place<'_>, line: &[u8], errors: &mut E) -> bool {
     let Some(rule) = rule_of(line) else {
         return is_told;
     };
     if is_told {
         return true;
     }
-    tell_note(number, rule, errors);
     let index = if word_at(line, 1) == b"call".as_slice() {
         6
     } else {
         5
     };
-    point(line, word_start(line, index), coloured, errors);
+    tell_note(place, rule, line, index, errors);
     true
 }
 
 /// Tells of the first line of a core that the vm line doesn't give, and of the first mapping whose flags have neither `p` nor `s`, or
-/// both, before the line with this number.
-pub fn tell_notes<E: Write>(manner: Manner, kept: &KeptText, end: u64, errors: &mut E) {
-    if manner.kind != TextKind::Trace {
+/// both, before the line with this number, in the text of this place.
+pub fn tell_notes<E: Write>(kind: TextKind, place: Place<'_>, kept: &KeptText, errors: &mut E) {
+    if kind != TextKind::Trace {
         return;
     }
     let mut cores = u64::MAX;
@@ -139,12 +144,13 @@ pub fn tell_notes<E: Write>(manner: Manner, kept: &KeptText, end: u64, errors: &
     let mut number = kept.before();
     for line in kept.text().split(|byte| *byte == b'\n') {
         number = number.saturating_add(1);
-        if number >= end {
+        if number >= place.number {
             return;
         }
+        let here = Place { number, ..place };
         cores = cores_after(cores, line);
-        tells_core = notice_core(tells_core, cores, number, line, manner.coloured, errors);
-        tells_flags = notice_flags(tells_flags, number, line, manner.coloured, errors);
+        tells_core = notice_core(tells_core, cores, here, line, errors);
+        tells_flags = notice_flags(tells_flags, here, line, errors);
     }
 }
 
@@ -180,39 +186,29 @@ fn reply_at(line: &[u8]) -> usize {
     place.saturating_add(word_start(behind(line, place), 0))
 }
 
-// Writes the number of a line whose reply is illegal.
-fn tell_line<E: Write>(number: u64, errors: &mut E) {
-    let _ = writeln!(errors, "audit: line {number}");
-}
-
 // Shows the line that asked first for what is answered here, where that is another one.
-fn show_asked<E: Write>(number: u64, line: &[u8], kept: &KeptText, errors: &mut E) {
+fn show_asked<E: Write>(number: u64, line: &[u8], kept: &KeptText, report: &mut Report<'_, E>) {
     if matches!(word_at(line, 1), b"finish" | b"go" | b"giveup")
         && let Some(asked) = line_that_waits(kept, word_at(line, 0), number)
     {
-        show_line(asked, errors);
+        report.show(asked);
     }
 }
 
-/// Shows the request whose reply is illegal, which stands at the line with this number: that line, or where it finishes a call that
+/// Shows the request whose reply is illegal, which is in the line with this number: that line, or where it finishes a call that
 /// waited, the line that asked for it first.
-pub fn show_request<E: Write>(number: u64, kept: &KeptText, coloured: bool, errors: &mut E) {
+pub fn show_request<E: Write>(number: u64, kept: &KeptText, report: &mut Report<'_, E>) {
     let Some(line) = kept.line(number) else {
+        report.end();
         return;
     };
-    tell_line(number, errors);
-    show_asked(number, line, kept, errors);
-    point(line, reply_at(line), coloured, errors);
+    report.begin_at(reply_at(line));
+    show_asked(number, line, kept, report);
+    report.point(line, reply_at(line));
 }
 
 /// Tells why a reply isn't told to be illegal, which isn't right in the order of the replies.
-pub fn tell_undecided<E: Write>(errors: &mut E) {
-    tell(
-        "calls overlapped before it, or a store had nomemory: in another order of the",
-        errors,
-    );
-    tell(
-        "calls, or with a copy that the store left, the reply may be right",
-        errors,
-    );
+pub fn tell_undecided<E: Write>(report: &mut Report<'_, E>) {
+    report.tell("calls overlapped before it, or a store had nomemory: in another order of the");
+    report.tell("calls, or with a copy that the store left, the reply may be right");
 }

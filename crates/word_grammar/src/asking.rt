@@ -1,6 +1,6 @@
 //! What the words of the command line ask for.
 
-ghost use Rattle.std.specs.Prelude.{◌≡◌, ℕ};
+ghost use Rattle.std.specs.Prelude.{◌≡◌, ℕ, Bool};
 ghost use Rattle.import_log.specs.declared.processes.Choice.{Choice};
 ghost use Rattle.word_parts.specs.declared.asked.Shows.{Shows};
 ghost use Rattle.litmus.specs.declared.telling.LitmusAsk.{LitmusAsk};
@@ -14,9 +14,13 @@ use import_log::processes::Choice;
 use litmus::{Listing, LitmusAsk};
 use machine_model::CallLimit;
 use std::alloc::{AllocError, Allocator, Global};
+use trace_text::number::read_number;
 use trace_words::show::Show;
 use word_help::Topic;
-use word_parts::asked::{Drawing, Echoed, LineRange, Overlaps, Shows, StepRange, WitnessPicture};
+use word_parts::asked::{
+    Condition, Drawing, Echoed, LinePair, LineRange, Overlaps, PageAsked, Question, Shows,
+    StepRange, WitnessPicture,
+};
 
 /// What has to be done with a text.
 #[derive(Clone, Copy)]
@@ -48,6 +52,11 @@ pub enum Work {
     ShareLive,
     /// The trace of a log of strace, of the process that is chosen.
     Import(Choice),
+    /// The calls of a log of strace with their replies, of the process that is chosen; whether the log is of several files.
+    ImportReplies {
+        choice: Choice,
+        several: bool,
+    },
     /// The traces of a log of strace, one for each process.
     ImportEach,
     /// The trace of a log of lackey.
@@ -58,10 +67,6 @@ pub enum Work {
     AuditAll(Terms),
     /// The judgement of calls that overlap, by an order that is searched, or given.
     Overlapping(Overlaps),
-    /// The same, where each page of a range changes at a moment of its own.
-    ByPages(Overlaps),
-    /// The same, where an access may go as before a call that hasn't ended; whether a mapping may have any place.
-    Loosely(bool),
     /// The same, by the rule that kernels keep; whether a mapping may have any place, and threads may move between cores.
     ByKernel {
         any_place: bool,
@@ -93,8 +98,10 @@ pub struct Command<'a> {
     pub order: Option<&'a str>,
     /// The folder that an import writes traces to.
     pub folder: Option<&'a str>,
-    /// Whether more is said about a fault than its text.
-    pub explains: bool,
+    /// Whether nothing more is said about an error than its place and what it is.
+    pub is_brief: bool,
+    /// Whether colours are shown, where the words say that.
+    pub colours: Option<bool>,
 }
 
 /// What is printed in its place.
@@ -104,10 +111,14 @@ pub enum Usage {
     Words(Error),
     /// A page of the help.
     Page(Topic),
+    /// The front of one.
+    Front(Topic),
     /// No step, or no line, is from the first of these to the last.
     NoSteps(StepRange),
     /// Lines are counted from 1.
     NoLine,
+    /// An address is asked for, and no number is given.
+    NoAddress,
     /// Several files stand where one is read.
     ManyFiles,
 }
@@ -121,6 +132,15 @@ fn limit_of<'a>(words: &ArgMatches<'a>) -> CallLimit {
     }
 }
 
+// Whether colours are shown, where the words say that.
+fn colours_of<'a>(words: &ArgMatches<'a>) -> Option<bool> {
+    match words.get_str("color") {
+        Some("always") => Some(true),
+        Some("never") => Some(false),
+        _ => None,
+    }
+}
+
 // This work with the text that the words name.
 fn working<'a>(work: Work, words: &ArgMatches<'a>) -> Command<'a>
     ensures { result.work ≡ work }
@@ -131,8 +151,51 @@ fn working<'a>(work: Work, words: &ArgMatches<'a>) -> Command<'a>
         maps: None,
         order: None,
         folder: None,
-        explains: words.get_flag("explain"),
+        is_brief: words.get_flag("brief"),
+        colours: colours_of(words),
     }
+}
+
+// What a state is to be like.
+fn condition_of(name: &str) -> Condition {
+    match name {
+        "waits" => Condition::Waits,
+        "unused" => Condition::Unused,
+        _ => Condition::Stale,
+    }
+}
+
+// The two lines that the words name.
+fn pair_of<'a>(words: &ArgMatches<'a>) -> Option<LinePair> {
+    let mut numbers = words.get_many::<u64>("diff")?;
+    let Some(Ok(before)) = numbers.next() else {
+        return None;
+    };
+    let Some(Ok(after)) = numbers.next() else {
+        return None;
+    };
+    Some(LinePair { before, after })
+}
+
+// What these words of the word `state` ask for.
+fn state_asked<'a>(words: &ArgMatches<'a>) -> Result<Drawing, Usage> {
+    let at = words.get_one("at");
+    if let Some(pair) = pair_of(words) {
+        return Ok(Drawing::Answer(Question::Between(pair)));
+    }
+    if let Some(name) = words.get_str("until") {
+        return Ok(Drawing::Answer(Question::First(condition_of(name))));
+    }
+    if let Some(text) = words.get_str("who") {
+        let Some(addr) = read_number(text.as_bytes()) else {
+            return Err(Usage::NoAddress);
+        };
+        return Ok(Drawing::Answer(Question::Page(PageAsked { addr, at })));
+    }
+    if words.get_flag("json") {
+        return Ok(Drawing::Objects(at));
+    }
+    Ok(Drawing::State(at))
 }
 
 // What these words of a word that reads a trace ask for.
@@ -147,6 +210,9 @@ fn replaying<'a>(show: Show, sums: bool, words: &ArgMatches<'a>) -> Command<'a>
 fn drawing_of<'a>(words: &ArgMatches<'a>) -> Drawing {
     if words.get_flag("lives") {
         return Drawing::Lives;
+    }
+    if words.get_flag("history") {
+        return Drawing::History;
     }
     let first = words.get_one("from").unwrap_or(1).max(1);
     let last = words.get_one("to").unwrap_or(u64::MAX);
@@ -206,16 +272,30 @@ fn litmus_asked<'a>(words: &ArgMatches<'a>) -> Command<'a> {
 fn testing<'a>(words: &ArgMatches<'a>) -> Command<'a>
     ensures { (wanted : LitmusAsk) × (limit : ℕ) × (result.work ≡ Work.Litmus wanted limit) }
 {
+    let work = Work::Litmus {
+        wanted: wanted_of(words),
+        limit: points_of(words),
+    };
     Command {
-        work: Work::Litmus {
-            wanted: wanted_of(words),
-            limit: points_of(words),
-        },
-        file: words.get_str("FILE"),
         maps: words.get_str("observed"),
-        order: None,
-        folder: None,
-        explains: words.get_flag("explain"),
+        ..working(work, words)
+    }
+}
+
+// What is imported of a log, as the words say.
+fn choice_of<'a>(words: &ArgMatches<'a>) -> Choice {
+    Choice {
+        thread: words.get_one("pid"),
+        joined: words.get_flag("one-process"),
+        from_empty: words.get_flag("from-empty"),
+    }
+}
+
+// Whether the words name several files.
+fn has_several<'a>(words: &ArgMatches<'a>) -> bool {
+    match words.get_strs("FILE") {
+        Some(names) => names.len() > 1,
+        None => false,
     }
 }
 
@@ -224,16 +304,22 @@ fn importing<'a>(words: &ArgMatches<'a>) -> Command<'a>
     ensures { (choice : Choice) × (result.work ≡ Work.Import choice) }
 {
     Command {
-        work: Work::Import(Choice {
-            thread: words.get_one("pid"),
-            joined: words.get_flag("one-process"),
-            from_empty: words.get_flag("from-empty"),
-        }),
-        file: words.get_str("FILE"),
         maps: words.get_str("maps"),
-        order: None,
-        folder: None,
-        explains: words.get_flag("explain"),
+        ..working(Work::Import(choice_of(words)), words)
+    }
+}
+
+// The calls of a log with their replies, with the list of mappings that the words name.
+fn replying<'a>(words: &ArgMatches<'a>) -> Command<'a>
+    ensures { (choice : Choice) × (several : Bool) × (result.work ≡ Work.ImportReplies choice several) }
+{
+    let work = Work::ImportReplies {
+        choice: choice_of(words),
+        several: has_several(words),
+    };
+    Command {
+        maps: words.get_str("maps"),
+        ..working(work, words)
     }
 }
 
@@ -242,17 +328,14 @@ fn importing_each<'a>(words: &ArgMatches<'a>) -> Command<'a>
     ensures { result.work ≡ Work.ImportEach }
 {
     Command {
-        work: Work::ImportEach,
-        file: words.get_str("FILE"),
-        maps: None,
-        order: None,
         folder: words.get_str("all"),
-        explains: words.get_flag("explain"),
+        ..working(Work::ImportEach, words)
     }
 }
 
-// What the words after `run` ask for, in colours or without.
+// What the words after `run` ask for, in colours or without where they don't say that.
 fn running_asked<'a>(words: &ArgMatches<'a>, coloured: bool) -> Command<'a> {
+    let coloured = colours_of(words).unwrap_or(coloured);
     let logs = words.get_flag("log");
     if words.get_flag("state") {
         let shows = Echoed { coloured, logs };
@@ -284,7 +367,7 @@ fn living_asked<'a>(words: &ArgMatches<'a>) -> Work {
     if words.get_flag("history") {
         return Work::LiveHistory { sums };
     }
-    if words.get_flag("shared") {
+    if words.get_flag("one-machine") || words.get_flag("shared") {
         return Work::ShareLive;
     }
     Work::Live { sums }
@@ -298,7 +381,7 @@ fn topic_named(name: &str) -> Topic {
         "outcomes" => Topic::Outcomes,
         "log" => Topic::Log,
         "maps" => Topic::Maps,
-        "faults" | "status" => Topic::Faults,
+        "errors" | "faults" | "status" => Topic::Faults,
         "cores" => Topic::Cores,
         "formats" => Topic::Formats,
         "certify" | "notes" => Topic::Notes,
@@ -307,7 +390,7 @@ fn topic_named(name: &str) -> Topic {
         "audit" => Topic::Audit,
         "picture" => Topic::Picture,
         "state" => Topic::State,
-        "page" => Topic::Page,
+        "html" | "page" => Topic::Page,
         "litmus" => Topic::Litmus,
         _ => Topic::Overview,
     }
@@ -329,24 +412,18 @@ fn overlapping<'a>(words: &ArgMatches<'a>) -> Command<'a> {
         is_given: given.is_some(),
         is_wanted: words.get_str("order").is_some(),
     };
+    let work = if words.get_flag("kernel") {
+        Work::ByKernel {
+            any_place: overlaps.any_place,
+            moving: words.get_flag("moving"),
+        }
+    } else {
+        Work::Overlapping(overlaps)
+    };
     Command {
-        work: if words.get_flag("kernel") {
-            Work::ByKernel {
-                any_place: overlaps.any_place,
-                moving: words.get_flag("moving"),
-            }
-        } else if words.get_flag("loose") {
-            Work::Loosely(overlaps.any_place)
-        } else if words.get_flag("by-pages") {
-            Work::ByPages(overlaps)
-        } else {
-            Work::Overlapping(overlaps)
-        },
-        file: words.get_str("FILE"),
         maps: given,
         order: words.get_str("order"),
-        folder: None,
-        explains: words.get_flag("explain"),
+        ..working(work, words)
     }
 }
 
@@ -359,22 +436,23 @@ fn terms_asked<'a>(words: &ArgMatches<'a>) -> Terms {
 }
 
 // What the words after one of the program's own ask for, or the page of the help.
-fn asked<'a>(name: &str, words: &ArgMatches<'a>, coloured: bool) -> Result<Command<'a>, Topic> {
+fn asked<'a>(name: &str, words: &ArgMatches<'a>, coloured: bool) -> Result<Command<'a>, Usage> {
     match name {
         "run" => Ok(running_asked(words, coloured)),
         "maps" if words.get_flag("names") => {
             Ok(working(Work::Picture(Drawing::Listing(limit_of(words))), words))
         }
         "maps" => Ok(replaying(Show::Maps, false, words)),
-        "state" if words.get_flag("json") => {
-            Ok(working(Work::Picture(Drawing::Objects(words.get_one("at"))), words))
-        }
-        "state" => Ok(working(Work::Picture(Drawing::State(words.get_one("at"))), words)),
-        "page" => Ok(working(Work::Picture(Drawing::Page), words)),
+        "state" => match state_asked(words) {
+            Ok(drawing) => Ok(working(Work::Picture(drawing), words)),
+            Err(usage) => Err(usage),
+        },
+        "html" | "page" => Ok(working(Work::Picture(Drawing::Page), words)),
         "certify" => Ok(working(Work::Certify, words)),
         "live" => Ok(working(living_asked(words), words)),
         "import" if words.get_flag("lackey") => Ok(working(Work::ImportAccesses, words)),
         "import" if words.get_str("all").is_some() => Ok(importing_each(words)),
+        "import" if words.get_flag("replies") => Ok(replying(words)),
         "import" => Ok(importing(words)),
         "audit" if words.get_flag("overlapping") => Ok(overlapping(words)),
         "audit" if words.get_flag("all") => {
@@ -383,7 +461,7 @@ fn asked<'a>(name: &str, words: &ArgMatches<'a>, coloured: bool) -> Result<Comma
         "audit" => Ok(working(Work::Audit(terms_asked(words)), words)),
         "picture" => Ok(working(Work::Picture(drawing_of(words)), words)),
         "litmus" => Ok(litmus_asked(words)),
-        _ => Err(topic_of(words)),
+        _ => Err(Usage::Page(topic_of(words))),
     }
 }
 
@@ -407,7 +485,7 @@ fn matched<'a, A: Allocator>(
     words: &'a [String<A>],
     coloured: bool,
     names: &mut Vec<&'a str>,
-) -> Result<Result<Command<'a>, Topic>, Error> {
+) -> Result<Result<Command<'a>, Usage>, Error> {
     let program = grammar(alloc)?;
     let matches = program.try_get_matches_from(words)?;
     match matches.subcommand() {
@@ -415,7 +493,17 @@ fn matched<'a, A: Allocator>(
             add_names(name, words, names)?;
             Ok(asked(name, words, coloured))
         }
-        None => Ok(Err(Topic::Overview)),
+        None => Ok(Err(Usage::Page(Topic::Overview))),
+    }
+}
+
+// Whether a state behind line 0 is asked for.
+fn is_behind_none(drawing: Drawing) -> bool {
+    match drawing {
+        Drawing::State(at) | Drawing::Objects(at) => at == Some(0),
+        Drawing::Answer(Question::Page(page)) => page.at == Some(0),
+        Drawing::Answer(Question::Between(pair)) => pair.before == 0 || pair.after == 0,
+        _ => false,
     }
 }
 
@@ -432,22 +520,45 @@ fn checked<'a>(task: Command<'a>, files: usize) -> Result<Command<'a>, Usage> {
                 last: lines.last,
             },
         )),
-        Work::Picture(Drawing::State(Some(0)) | Drawing::Objects(Some(0))) => Err(Usage::NoLine),
+        Work::Picture(drawing) if is_behind_none(drawing) => Err(Usage::NoLine),
         _ => Ok(task),
     }
 }
 
+// Whether `-h` is among the words that may be flags.
+fn asks_briefly<A: Allocator>(words: &[String<A>]) -> bool {
+    for word in words {
+        match word.as_str() {
+            "-h" => return true,
+            "--" => return false,
+            _ => {}
+        }
+    }
+    false
+}
+
+// The topic of the command that the words name first.
+fn topic_first<A: Allocator>(words: &[String<A>]) -> Topic {
+    match words.get(1) {
+        Some(name) => topic_named(name.as_str()),
+        None => Topic::Overview,
+    }
+}
+
 /// Parses the words: what they ask for, or what is printed in its place, and the names of the files of an import. What goes to
-/// standard output may have colours.
+/// standard output may have colours, where the words don't say that.
 pub fn parse<'a, A: Allocator>(
     alloc: Global,
     words: &'a [String<A>],
     coloured: bool,
     names: &mut Vec<&'a str>,
 ) -> Result<Command<'a>, Usage> {
+    if asks_briefly(words) {
+        return Err(Usage::Front(topic_first(words)));
+    }
     match matched(alloc, words, coloured, names) {
         Ok(Ok(task)) => checked(task, names.len()),
-        Ok(Err(topic)) => Err(Usage::Page(topic)),
+        Ok(Err(usage)) => Err(usage),
         Err(error) => Err(Usage::Words(error)),
     }
 }

@@ -6,15 +6,24 @@ ghost use Rattle.word_grammar.specs.Names.{name_of_word, program_words};
 
 use clap::{Arg, ArgAction, Command, value_parser};
 use std::alloc::{AllocError, Global};
-use word_help::{OVERVIEW, TOPICS, Topic, USAGE, VERSION, page};
+use word_help::{OVERVIEW, TOPICS, Topic, USAGE, VERSION_TEXT, page};
 
 // What stands behind a choice.
 #[derive(Clone, Copy)]
 enum Value {
     Nothing,
     Number,
+    Pair,
+    Condition,
     Name,
+    Colour,
 }
+
+// When colours are shown: at terminals, always or never.
+const COLOURS: &[&str] = &["auto", "always", "never"];
+
+// What a state may be like.
+const CONDITIONS: &[&str] = &["stale", "waits", "unused"];
 
 // What may stand after a word: where none of `rivals` does and, if one is given, only where `needed` does.
 #[derive(Clone, Copy)]
@@ -53,7 +62,10 @@ impl Choice {
         let arg = match self.value {
             Value::Nothing => arg.action(ArgAction::SetTrue),
             Value::Number => arg.value_parser(value_parser!(u64)),
+            Value::Pair => arg.value_parser(value_parser!(u64)).num_args(2),
+            Value::Condition => arg.value_parser(CONDITIONS),
             Value::Name => arg,
+            Value::Colour => arg.value_parser(COLOURS),
         };
         let mut arg = match self.needed {
             Some(needed) => arg.requires_arg(needed)?,
@@ -108,7 +120,8 @@ fn reading_from<'a>(
     let command = Command::new(alloc, name)
         .override_help(page(topic))
         .override_usage(usage);
-    let command = with_choices(alloc, command, &[flag("explain")])?;
+    let colour = Choice::new("color", Value::Colour);
+    let command = with_choices(alloc, command, &[flag("brief"), flag("explain"), colour])?;
     with_choices(alloc, command.arg(file)?, choices)
 }
 
@@ -128,30 +141,31 @@ fn with_choices<'a>(
 }
 
 const RUN_USAGE: &str =
-    "radixvm run [--summary | [--echo] [--state] [--log]] [--long] [--explain] [FILE]";
+    "radixvm run [--summary | [--echo] [--state] [--log]] [--long] [--brief] [FILE]";
 
-const MAPS_USAGE: &str = "radixvm maps [--names] [--long] [--explain] [FILE]";
+const MAPS_USAGE: &str = "radixvm maps [--names] [--long] [--brief] [FILE]";
 
-const CERTIFY_USAGE: &str = "radixvm certify [--explain] [FILE]";
+const CERTIFY_USAGE: &str = "radixvm certify [--brief] [FILE]";
 
 const LIVE_USAGE: &str =
-    "radixvm live [[--certify | --history] [--summary] | --shared] [--explain] [FILE]";
+    "radixvm live [[--certify | --history] [--summary] | --one-machine] [--brief] [FILE]";
 
 const IMPORT_USAGE: &str =
-    "radixvm import [--lackey | --all DIR | [--pid N] [--one-process] [--maps FILE] [--from-empty]] [--explain] [FILE..]";
+    "radixvm import [--lackey | --all DIR | [--replies] [--pid N] [--one-process] [--maps FILE] [--from-empty]] [--brief] [FILE..]";
 
 const AUDIT_USAGE: &str =
-    "radixvm audit [--overlapping [--kernel [--moving] | --loose | [--given IN | --by-pages] [--order OUT]] | [--strict] [--all]] [--any-place] [--explain] [FILE]";
+    "radixvm audit [--overlapping [--kernel [--moving] | [--given IN] [--order OUT]] | [--strict] [--all]] [--any-place] [--brief] [FILE]";
 
 const LITMUS_USAGE: &str =
-    "radixvm litmus [--to-c | [--limit N] [--list | --witness N | --picture N | --observed COUNTS | --live N]] [--explain] [FILE]";
+    "radixvm litmus [--to-c | [--limit N] [--list | --witness N | --picture N | --observed COUNTS | --live N]] [--brief] [FILE]";
 
-const STATE_USAGE: &str = "radixvm state [--at N] [--json] [--explain] [FILE]";
+const STATE_USAGE: &str =
+    "radixvm state [--diff A B | --until COND | [--at N] [--json | --who ADDR]] [--brief] [FILE]";
 
-const PAGE_USAGE: &str = "radixvm page [--explain] [FILE]";
+const HTML_USAGE: &str = "radixvm html [--brief] [FILE]";
 
 const PICTURE_USAGE: &str =
-    "radixvm picture [--lives | [--steps] [--from N] [--to N]] [--explain] [FILE]";
+    "radixvm picture [--history | --lives | [--steps] [--from N] [--to N]] [--brief] [FILE]";
 
 // The word `run` with what may stand after it.
 fn run_word<'a>(alloc: Global) -> Result<Command<'a>, AllocError>
@@ -179,7 +193,13 @@ fn maps_word<'a>(alloc: Global) -> Result<Command<'a>, AllocError>
 fn state_word<'a>(alloc: Global) -> Result<Command<'a>, AllocError>
     ensures { IfOk result (λ c. (app_of c).top.name ≡ codes "state") }
 {
-    let choices = [number("at"), flag("json")];
+    let choices = [
+        number("at"),
+        flag("json"),
+        Choice::new("diff", Value::Pair).without(&["at", "json"]),
+        name("who").without(&["json", "diff"]),
+        Choice::new("until", Value::Condition).without(&["at", "json", "diff", "who"]),
+    ];
     reading(alloc, "state", Topic::State, STATE_USAGE, &choices)
 }
 
@@ -190,8 +210,10 @@ fn live_word<'a>(alloc: Global) -> Result<Command<'a>, AllocError>
     let choices = [
         flag("certify"),
         flag("history").without(&["certify"]),
+        flag("one-machine").without(&["certify", "history"]),
+        // Its older name.
         flag("shared").without(&["certify", "history"]),
-        flag("summary").without(&["shared"]),
+        flag("summary").without(&["one-machine", "shared"]),
     ];
     reading(alloc, "live", Topic::Threads, LIVE_USAGE, &choices)
 }
@@ -206,8 +228,9 @@ fn import_word<'a>(alloc: Global) -> Result<Command<'a>, AllocError>
         flag("one-process"),
         name("maps"),
         flag("from-empty"),
-        name("all").without(&["pid", "one-process", "maps", "from-empty"]),
-        flag("lackey").without(&["pid", "one-process", "maps", "from-empty", "all"]),
+        flag("replies"),
+        name("all").without(&["pid", "one-process", "maps", "from-empty", "replies"]),
+        flag("lackey").without(&["pid", "one-process", "maps", "from-empty", "replies", "all"]),
     ];
     reading_from(
         alloc,
@@ -231,18 +254,10 @@ fn audit_word<'a>(alloc: Global) -> Result<Command<'a>, AllocError>
         flag("overlapping").without(&["strict", "all"]),
         of_orders(name("given"), &["strict", "all"]),
         of_orders(name("order"), &["strict", "all"]),
-        of_orders(flag("by-pages"), &["strict", "all", "given"]),
-        of_orders(
-            flag("loose"),
-            &["strict", "all", "by-pages", "given", "order"],
-        ),
-        of_orders(
-            flag("kernel"),
-            &["strict", "all", "by-pages", "given", "order", "loose"],
-        ),
+        of_orders(flag("kernel"), &["strict", "all", "given", "order"]),
         flag("moving")
             .beside("kernel")
-            .without(&["strict", "all", "by-pages", "given", "order", "loose"]),
+            .without(&["strict", "all", "given", "order"]),
     ];
     reading(alloc, "audit", Topic::Audit, AUDIT_USAGE, &choices)
 }
@@ -261,6 +276,7 @@ fn picture_word<'a>(alloc: Global) -> Result<Command<'a>, AllocError>
         number("to"),
         flag("steps").without(&["lives"]),
         flag("lives").without(&["from", "to"]),
+        flag("history").without(&["from", "to", "steps", "lives"]),
     ];
     reading(alloc, "picture", Topic::Picture, PICTURE_USAGE, &choices)
 }
@@ -297,6 +313,7 @@ enum Word {
     Run,
     Maps,
     State,
+    Html,
     Page,
     Certify,
     Live,
@@ -307,10 +324,11 @@ enum Word {
     Help,
 }
 
-const WORDS: [Word; 11] = [
+const WORDS: [Word; 12] = [
     Word::Run,
     Word::Maps,
     Word::State,
+    Word::Html,
     Word::Page,
     Word::Certify,
     Word::Live,
@@ -329,7 +347,9 @@ fn command<'a>(alloc: Global, word: Word) -> Result<Command<'a>, AllocError>
         Word::Run => run_word(alloc),
         Word::Maps => maps_word(alloc),
         Word::State => state_word(alloc),
-        Word::Page => reading(alloc, "page", Topic::Page, PAGE_USAGE, &[]),
+        Word::Html => reading(alloc, "html", Topic::Page, HTML_USAGE, &[]),
+        // Its older name.
+        Word::Page => reading(alloc, "page", Topic::Page, HTML_USAGE, &[]),
         Word::Certify => reading(alloc, "certify", Topic::Notes, CERTIFY_USAGE, &[]),
         Word::Live => live_word(alloc),
         Word::Import => import_word(alloc),
@@ -347,7 +367,7 @@ pub fn grammar<'a>(alloc: Global) -> Result<Command<'a>, AllocError>
     let mut program = Command::new(alloc, "radixvm")
         .override_help(OVERVIEW)
         .override_usage(USAGE)
-        .version(VERSION)
+        .version(VERSION_TEXT)
         .disable_help_subcommand(true)
         .subcommand_required(true);
     'words: for at in 0..WORDS.len() {

@@ -1,10 +1,11 @@
 -- Which text each topic of the help has.
-use Rattle.std.specs.Prelude.{ℕ, List}
+use Rattle.std.specs.Prelude.{◌≡◌, ℕ, List, take}
 use Rattle.word_help.specs.declared.TheConstants as Text
 use Rattle.word_help.specs.declared.traces.TheConstants as OfTraces
 use Rattle.word_help.specs.declared.texts.TheConstants as OfTexts
 use Rattle.word_help.specs.declared.Topic.{Topic}
-use Rattle.word_help.specs.declared.Topic.TheVariants.{Overview, Run, Trace, Outcomes, Log, Maps, Faults, Cores, Formats, Notes, Threads, Import, Audit, Picture, State, Page, Litmus}
+use Rattle.word_help.specs.declared.Topic.TheVariants.{Overview, Run, Trace, Outcomes, Log, Maps, Faults, Cores, Formats, Notes, Threads, Import}
+use Rattle.word_help.specs.declared.Topic.TheVariants.{Audit, Picture, State, Page, Litmus}
 
 abbrev pub page_of : Topic → List ℕ
 page_of Overview = Text.OVERVIEW.now
@@ -24,3 +25,7 @@ page_of Picture = OfTexts.PICTURE.now
 page_of State = OfTraces.STATE.now
 page_of Page = OfTraces.PAGE.now
 page_of Litmus = OfTexts.LITMUS.now
+
+-- these bytes are the first ones of the text
+abbrev pub IsFront : List ℕ → List ℕ → Type 0
+IsFront text front = (count : ℕ) × (front ≡ take count text)

@@ -9,35 +9,40 @@ mod texts;
 mod traces;
 
 ghost use Rattle.std.specs.Prelude.{◌≡◌};
-ghost use Rattle.word_help.specs.Help.{page_of};
+ghost use Rattle.word_help.specs.Help.{IsFront, page_of};
 
 use crate::texts::{AUDIT, IMPORT, LITMUS, NOTES, PICTURE, THREADS};
 use crate::traces::{CORES, FAULTS, FORMATS, LOG, MAPS, OUTCOMES, PAGE, RUN, STATE, TRACE};
 
-/// What `--version` says after the program's name.
+/// The program's version.
 pub const VERSION: &str = "0.1.0";
+
+/// What `--version` says after the program's name: also the version of the header for C, and the kit whose logic proves the program.
+pub const VERSION_TEXT: &str = "0.1.0\nheader 5, rattle-kit-13f logic dac8208d650f15bf";
 
 /// How commands and options go together.
 pub const USAGE: &str = "\
 radixvm run [--summary | [--echo] [--state] [--log]] [--long]
-                   [--explain] [FILE]
-       radixvm maps [--names] [--long] [--explain] [FILE]
-       radixvm state [--at N] [--json] [--explain] [FILE]
-       radixvm page [--explain] [FILE]
-       radixvm certify [--explain] [FILE]
-       radixvm live [[--certify | --history] [--summary] | --shared]
-                    [--explain] [FILE]
+                   [--brief] [FILE]
+       radixvm maps [--names] [--long] [--brief] [FILE]
+       radixvm state [--diff A B | --until COND |
+                      [--at N] [--json | --who ADDR]] [--brief] [FILE]
+       radixvm html [--brief] [FILE]
+       radixvm certify [--brief] [FILE]
+       radixvm live [[--certify | --history] [--summary] | --one-machine]
+                    [--brief] [FILE]
        radixvm import [--lackey | --all DIR |
-                      [--pid N] [--one-process] [--maps FILE]
-                      [--from-empty]] [--explain] [FILE..]
-       radixvm audit [--overlapping [--kernel [--moving] | --loose |
-                       [--given IN | --by-pages] [--order OUT]] |
-                     [--strict] [--all]] [--any-place] [--explain] [FILE]
-       radixvm picture [--lives | [--steps] [--from N] [--to N]]
-                       [--explain] [FILE]
+                      [--replies] [--pid N] [--one-process]
+                      [--maps FILE] [--from-empty]] [--brief] [FILE..]
+       radixvm audit [--overlapping [--kernel [--moving] |
+                                     [--given IN] [--order OUT]] |
+                     [--strict] [--all]] [--any-place] [--brief] [FILE]
+       radixvm picture [--history | --lives |
+                        [--steps] [--from N] [--to N]]
+                       [--brief] [FILE]
        radixvm litmus [--to-c | [--limit N] [--list | --witness N |
                       --picture N | --observed COUNTS | --live N]]
-                      [--explain] [FILE]
+                      [--brief] [FILE]
        radixvm help [TOPIC]";
 
 /// What the program is for, its commands, and where to read on.
@@ -48,7 +53,7 @@ of other systems.
 
 To do this                                       use
   see what calls reply                           run
-  see what each core holds; step through it      state, page, picture
+  see what each core holds; step through it      state, html, picture
   check a kernel or simulator, call by call      audit
   check threads whose calls overlap              audit --overlapping
   list every outcome of a race                   litmus
@@ -67,7 +72,7 @@ Commands:
   run --summary  writes the run's numbers to standard error
   maps           writes the mappings at the end of a trace
   state          writes the state at the end of a trace, or after line N
-  page           writes a page of HTML that steps through a trace
+  html           writes a page of HTML that steps through a trace
   picture        draws a trace as SVG: its lines, steps or mappings
   audit          judges the replies of another address space
   litmus         lists what calls of several cores can reply
@@ -76,28 +81,29 @@ Commands:
   live --certify certifies these notes, or refuses them
   live --history writes when each call began and was answered
   live --summary writes numbers of the run to standard error
-  live --shared  runs the script on one machine that all threads share
   certify        says whether notes are a run of the machine
   help           writes this text
   --long         lets the trace ask for up to 2^40 calls
-  --explain      shows below an error the line and what was expected
+  --brief        says only where an error is, and what it is
 
 Topics:
   help TOPIC     explains one of these, or a command, as COMMAND --help does:
     trace        the lines of a trace
     outcomes     the outcomes of events; what to do at a wait
     log          the lines that --log adds
-    faults       errors, limits and exit status; so does status
+    errors       errors, limits and exit status; so does status
     cores        tables, TLBs, locks, shootdown, and how frames come back
     notes        the lines that certify reads and writes
     threads      scripts, and what live writes
     formats      the grammar of each text
 
 Options of all commands:
-  -h, --help     explains the command
+  --color WHEN   colours: auto (on a terminal, unless NO_COLOR is set), always
+                 or never
+  -h             writes only usage and options
+  --help         explains the command
   -V, --version  writes the version
-
-On a terminal --echo and --explain use colours, unless NO_COLOR is set.
+  --             what comes after it is a FILE
 
 Example, with one core and four frames:
   printf '%s\\n' 'vm 1 4' 'c0! mmap 0x10000 4096 rw- pfa' \\
@@ -138,7 +144,7 @@ pub enum Topic {
     Picture,
     /// What `state` writes.
     State,
-    /// What `page` writes.
+    /// What `html` writes.
     Page,
     /// What `litmus` reads and writes.
     Litmus,
@@ -146,8 +152,9 @@ pub enum Topic {
 
 /// The names of the topics, as the program's words have them: first those of words.
 pub const TOPICS: &[&str] = &[
-    "run", "maps", "state", "page", "certify", "live", "import", "audit", "picture", "litmus",
-    "trace", "outcomes", "log", "faults", "cores", "notes", "threads", "formats", "status", "help",
+    "run", "maps", "state", "html", "page", "certify", "live", "import", "audit", "picture",
+    "litmus", "trace", "outcomes", "log", "errors", "faults", "cores", "notes", "threads",
+    "formats", "status", "help",
 ];
 
 /// The topic's text.
@@ -173,4 +180,36 @@ pub fn page(topic: Topic) -> &'static str
         Topic::Page => PAGE,
         Topic::Litmus => LITMUS,
     }
+}
+
+/// The front of the topic's page: what it is for, its usage and its options, where it has some.
+pub fn brief(topic: Topic) -> &'static str
+    ensures { IsFront (page_of topic) result.now }
+{
+    let text = page(topic);
+    match text.get(..front_end(text)) {
+        Some(front) => front,
+        None => text,
+    }
+}
+
+// What comes before the options of a page, and before the list of commands.
+const OPTIONS_HEAD: &str = "\n\nOptions:";
+
+const COMMANDS_HEAD: &str = "\n\nCommands:";
+
+// Where the front of a page ends: before the list of commands, or after the options.
+fn front_end(text: &str) -> usize {
+    let (front, rest) = text.split_once(OPTIONS_HEAD).unwrap_or((text, ""));
+    if let Some(end) = text.find(COMMANDS_HEAD) {
+        return end.saturating_add(1);
+    }
+    let options = match rest.find("\n\n") {
+        Some(end) => end.saturating_add(1),
+        None => rest.len(),
+    };
+    front
+        .len()
+        .saturating_add(OPTIONS_HEAD.len())
+        .saturating_add(options)
 }

@@ -5,10 +5,10 @@ pub const NOTES: &str = "\
 certify reads notes, and says whether they are a run of the machine: it
 validates a recorded run.
 
-Usage: radixvm certify [--explain] [FILE]
+Usage: radixvm certify [--brief] [FILE]
 
 Options:
-  --explain  shows below an error the line and what was expected
+  --brief    says only where an error is, and what it is
 
 Notes say which steps were made, in which order, and with which outcomes.
 Several cores may have noted their steps at the same time. The text begins as a
@@ -38,7 +38,7 @@ Example, a call and its two steps:
 writes certified 1.
 
 Status: 0 if they are certified, 1 if they are refused; 2 for a bad text or bad
-arguments; 3 if reading, writing or memory failed. After an error (help faults)
+arguments; 3 if reading, writing or memory failed. After an error (help errors)
 nothing is written.
 ";
 
@@ -48,15 +48,16 @@ live runs a script, each core's lines in their order on a thread of the core's
 own, or one core after another if no thread can be made. All other commands use
 one thread.
 
-Usage: radixvm live [[--certify | --history] [--summary] | --shared]
-                    [--explain] [FILE]
+Usage: radixvm live [[--certify | --history] [--summary] | --one-machine]
+                    [--brief] [FILE]
 
 Options:
-  --certify  writes only whether the notes are certified
-  --history  writes when each call began and was answered, for audit
-  --summary  writes numbers of the run to standard error
-  --shared   runs the script on one machine that all threads share
-  --explain  shows below an error the line and what was expected
+  --certify      writes only whether the notes are certified
+  --history      writes when each call began and was answered, for audit
+  --summary      writes numbers of the run to standard error
+  --one-machine  runs the script on one machine that all threads share. Its
+                 older name is --shared
+  --brief        says only where an error is, and what it is
 
 A script has the vm and file lines of help trace, and these lines:
 
@@ -95,10 +96,10 @@ after a run without an error, each on a line of its own:
   takes           messages that cores handled
   tickets, notes  how many tickets were drawn, and notes made: as many
 
-live --shared runs the script on one machine. A core makes its call whole while
-no other core is in one; otherwise it pauses, and tries again. CALLS limits the
-calls of all cores together. It writes these lines in place of notes; audit
-reads the last ones (help audit):
+live --one-machine runs the script on one machine. A core makes its call whole
+while no other core is in one; otherwise it pauses, and tries again. CALLS
+limits the calls of all cores together. It writes these lines in place of
+notes; audit reads the last ones (help audit):
 
   # cC! REQ = REPLY   the calls of each core, in order of cores, with the
                       replies that its thread had
@@ -122,7 +123,7 @@ core is printed:
 
 Examples:
   radixvm live --certify examples/threads.script
-  radixvm live --shared examples/shared.script
+  radixvm live --one-machine examples/shared.script
 
 Status: 0; 1 if notes are refused; 2 for a bad script or bad arguments; 3 if
 reading, writing or memory failed, or a core stopped.
@@ -134,13 +135,16 @@ import reads a log that strace wrote of a program, and writes a trace of what
 the program asked of its address space.
 
 Usage: radixvm import [--lackey | --all DIR |
-                      [--pid N] [--one-process] [--maps FILE]
-                      [--from-empty]] [--explain] [FILE..]
+                      [--replies] [--pid N] [--one-process]
+                      [--maps FILE] [--from-empty]] [--brief] [FILE..]
 
   strace -f -tt -T -y -o LOG -e trace=memory,process PROGRAM
   radixvm import LOG | radixvm run
+  radixvm import --replies LOG | radixvm audit --any-place
 
 Options:
+  --replies      writes calls with their replies in place of a trace: audit
+                 judges them (below)
   --pid N        the process of thread N. Without it, the one with the most
                  requests: if there are several, standard error lists them,
                  each with the program that it began last
@@ -152,22 +156,25 @@ Options:
   --maps FILE    a copy of /proc/PID/maps, as it was where the trace begins: at
                  the log's first line or, if the log has an execve of the
                  process, right after it
-  --from-empty   nothing is mapped where the trace begins, if neither --maps
-                 nor an execve says what is
+  --from-empty   the trace begins with nothing mapped; without effect where
+                 --maps or an execve says what is
   --lackey       LOG is one of valgrind's lackey. It has all accesses of memory
                  (below). With none of the other options
-  --explain      says which file couldn't be read, and why
+  --brief        says only where an error is, and what it is
 
 Logs. Give strace -o FILE: a terminal's lines have no number while one thread
 is followed. They are read if that shows its number later, or is alone.
 Lines with -t, -tt, -ttt, -r, -T, -i, -n, -Y, -X raw and -X verbose are read.
 
 Several FILEs are one log. strace -ff writes one for each thread, LOG.NUMBER:
-each line is of the thread with the number after its file's last dot. Give
-strace -ttt or -tt, too: the lines go in the order of their times, which are
-those at which calls began. In a file no time goes back: at midnight -tt begins
-anew, and -ttt doesn't. Lines before the first time of their file come first,
-in the order of the FILEs, and standard error says how many there are.
+each line is of the thread with the number after its file's last dot, if no
+line of the file names a thread; so it is in a FILE alone. Give strace -ttt,
+too: lines go in the order of their times, which are those at which calls
+began. Refused, with status 2, are several FILEs of which some call has no time
+with microseconds (strace -t has none), or one before that of a line above it
+(strace -tt at midnight): where it belongs isn't known. Lines that say nothing,
+before the first time of their file, come first, in the order of the FILEs, and
+standard error says how many there are.
 
 Refused, with status 2: a log that asks for nothing; one that doesn't say what
 was mapped when the process began, or how another process began, which may be a
@@ -199,9 +206,9 @@ Changed, since a trace has no such lines:
                  past a file's first 1048576 bytes, is one of zero bytes. What
                  files hold isn't in a log: each can be read and written, is as
                  long as its mappings reach, and begins with its number.
-                 Comments have names: # file N NAME before a file's line, and
-                 # anon ADDR LEN OFF NAME before a mapping of zero bytes that
-                 the file of this name, from OFF on, should back. A name has
+                 Comments have names: # file N NAME is before a file's line.
+                 # anon ADDR LEN OFF NAME is before a mapping of zero bytes
+                 that the file NAME, from OFF on, should back. A name has
                  \\xNN for a byte that isn't visible ASCII, and for \\, and ..
                  after its first 200 bytes, or 180 with a range
   pkey_mprotect  mprotect
@@ -228,6 +235,20 @@ own pages ([vvar], [vdso]), and what isn't from 4096 up to 2^47 ([vsyscall]).
 
 The trace has 256 frames, for lines with accesses that you may add. One of more
 than 1048576 requests needs run --long.
+
+Replies (--replies). Each call of the process that maps, unmaps or changes
+rights is a line cC! REQ = REPLY. It has what the program asked for and what
+the kernel answered; a mapping of a file is one of zero bytes. audit
+--any-place judges them. If the log has times, or a call is in two lines, a
+line is BEGIN END cC! REQ = REPLY. Then audit --overlapping --any-place judges
+it. With strace -ttt -T the numbers are nanoseconds, and else each line of the
+log has four. Standard error says which it is. brk and mremap are mmap and
+munmap. An mremap that moves a mapping is both, each in one half of its time.
+Failed calls are there where the mappings alone decide: EINVAL of munmap,
+mprotect and mmap of no file, and ENOMEM of mprotect. Left out are, besides
+what a trace leaves out, shmat, shmdt, and mprotect of pages that no line maps,
+as those that execve maps. With --maps the list's mappings come first. Several
+FILEs need strace -ttt -T. A message of strace's within a line is refused.
 
 A log with accesses is made and read so:
 
@@ -256,25 +277,23 @@ pub const AUDIT: &str = "\
 audit judges the replies of another address space, a kernel's or a simulator's:
 whether a plain page map gives them.
 
-Usage: radixvm audit [--overlapping [--kernel [--moving] | --loose |
-                       [--given IN | --by-pages] [--order OUT]] |
-                     [--strict] [--all]] [--any-place] [--explain] [FILE]
+Usage: radixvm audit [--overlapping [--kernel [--moving] |
+                                     [--given IN] [--order OUT]] |
+                     [--strict] [--all]] [--any-place] [--brief] [FILE]
 
 Options:
-  --any-place    an mmap without f may have any place. All its pages have to be
-                 valid and free; POSIX leaves the place to an implementation
-  --strict       noframe and nomemory are illegal
+  --any-place    an mmap without f may have any place, or be enomem. Its pages
+                 must be valid and free; POSIX leaves the place to a system
+  --strict       noframe, nomemory, and enomem despite room are illegal
   --all          goes on after a wrong reply, and writes each
   --overlapping  the text is a history: calls with the times of their begin and
                  end (invocation and response)
   --kernel       by the rule that kernels keep: changes are whole, and accesses
                  may use stale translations of the same frame
   --moving       threads may move between cores
-  --by-pages     calls on ranges may change their pages one after another
-  --loose        accesses may also use stale translations
   --order OUT    writes the order that was found to the file OUT
   --given IN     judges by the order in the file IN, and searches none
-  --explain      shows below an error the line and what was expected
+  --brief        says only where an error is, and what it is
 
 Calls with their replies, in the order in which they happened. First come a vm
 line and file lines, as in a trace (help trace). Then each line is one that run
@@ -299,8 +318,9 @@ judged, with its line's number:
 
   legal CALLS          so many calls, and each reply is the plain page map's
   legal CALLS, N without memory
-                       N of them had noframe or nomemory, which any system may
-                       reply: they change nothing
+                       N of them had noframe or nomemory, or enomem as mmaps
+                       without f (with --any-place): any system may reply so,
+                       and they change nothing
   illegal N: replied REPLY, due REPLY
                        line N's reply is wrong, and what is right; the lines
                        before it are legal, and none after it is read
@@ -369,23 +389,13 @@ mprotect may come to a page later than to others, until an access sees it new.
 A refused mprotect may have changed the pages before the first that it may not
 change; its error is that of some page. Once the list has refused a core such
 an access, later ones of that kind aren't late on that core. --moving permits
-them. legal is printed only if an order was found and checked, and else
-undecided: --kernel never says no order.
+them. legal is printed only if an order was found and checked. no order is
+printed only if the calls have none at one moment when accesses that may be
+late are left out, and if a store may be, all bytes. Then come a few calls that
+show it. A refused mprotect of several pages leaves that undecided.
 
---by-pages. A mmap, munmap or mprotect that was done is one call for each of
-its pages, all with its times, and each takes effect at a moment of its own. A
-mmap of a file maps the next page of the file in each; one without f may be
-anywhere, as long as each of its pages is free at its moment. If mprotect of
-several pages has enomem or eacces, that is its reply at some moment, and each
-of the pages was protected at a moment of its own or not (POSIX allows it).
---order OUT writes calls of one page each, 33,554,432 of them at most.
-
---loose also accepts stale translations. Until a mmap, munmap or mprotect has
-ended, an access to one of its pages may use the old mapping or the new one.
-Through the old one a load reads the old bytes, and a store changes only those,
-not the page. no order is printed only if the calls have none even when each
-access that could use an old mapping may reply anything at any time, or, if it
-reads, may have come before that call. So --loose is undecided more often.
+--by-pages and --loose, of earlier versions, are gone: --kernel is in their
+place.
 
 Examples:
   radixvm audit examples/audit.replies
@@ -394,8 +404,8 @@ Examples:
 The second writes illegal 4: replied 40, due 41, and 0x10000-0x11000 rw- anon.
 
 Status: 0 if all replies are legal; 1 if one isn't, or the calls have no order;
-2 for a bad text or bad arguments; 3 if that is undecided, or reading, writing
-or memory failed. After an error (help faults) nothing is written. The text is
+2 for a bad text or bad arguments; 3 if reading, writing or memory failed; 4 if
+it is undecided. After an error (help errors) nothing is written. The text is
 held in memory.
 ";
 
@@ -409,7 +419,7 @@ is proved.
 
 Usage: radixvm litmus [--to-c | [--limit N] [--list | --witness N |
                       --picture N | --observed COUNTS | --live N]]
-                      [--explain] [FILE]
+                      [--brief] [FILE]
 
 Options:
   --list             writes only the outcomes, one in a line. Tabs are between
@@ -420,7 +430,7 @@ Options:
   --live N           runs the test N times on threads, and counts
   --to-c             writes a C program that runs the test on a kernel
   --limit N          looks at N points of interleavings (1,000,000)
-  --explain          shows below an error the line and what was expected
+  --brief            says only where an error is, and what it is
 
 A test has these lines:
 
@@ -472,8 +482,8 @@ don't.
 the list, as in 12: c0 done; c1 1, 2. Empty lines and lines with # in front are
 skipped. It writes the counts again, and (outside) after an outcome that isn't
 listed. One with noframe or nomemory is never listed, nor one without mappings,
-if the test has final maps. Then comes exact, open or what else ends the list.
-The clauses aren't looked at.
+if the test has final maps. Then comes exact, open or what else ends the list,
+or nothing was observed, if nothing was counted. The clauses aren't looked at.
 
 --live runs the opening in order, then each core's calls on a thread of its
 own, and then loads of the final addresses, each time in a new space. Each run
@@ -495,18 +505,20 @@ Examples:
 The second writes 1: c0 done; c1 0 and 2: c0 done; c1 1, exact, and that the
 clause holds.
 
-Status: 0 if all clauses hold, 1 if one fails, 3 if one is open or the limit
-was met. With counts: 1 if an outcome isn't listed, but 3 if the limit was met;
-3 also if a run had noframe or nomemory, or a call that couldn't begin. 2 for a
-bad text or bad arguments; then nothing is written.
+Status: 0 if all clauses hold, 1 if one fails, 4 if one is open or the limit
+was met. With counts: 1 if an outcome isn't listed, but 4 if the limit was met;
+4 also if nothing was counted. 2 for a bad text or bad arguments; then nothing
+is written. 3 if the system failed, a run had noframe or nomemory, or a call
+couldn't begin.
 ";
 
 /// What `picture` shows.
 pub const PICTURE: &str = "\
 picture reads a trace, and draws what happened as one SVG text.
 
-Usage: radixvm picture [--lives | [--steps] [--from N] [--to N]]
-                       [--explain] [FILE]
+Usage: radixvm picture [--history | --lives |
+                        [--steps] [--from N] [--to N]]
+                       [--brief] [FILE]
 
 Options:
   --from N   the first line that is shown: 1 if it is left out
@@ -517,7 +529,9 @@ Options:
              name steps
   --lives    draws the lifetimes of mappings over the whole trace. It may ask
              for up to 2^40 calls. Not with --steps, --from or --to
-  --explain  shows below an error the line and what was expected
+  --history  draws a history of calls in place of a trace: lines that audit
+             --overlapping reads. With none of the other options
+  --brief    says only where an error is, and what it is
 
 Each line that does something has a column, under its number. Lines whose steps
 are those of one call, with no other step between, share one. Each core that
@@ -529,8 +543,8 @@ takes part has a lane. In it are
            the first column begins there
   marks    takes, walks, evictions, flushes, reviews, and a core that looked
            for a message and had none
-  arrows   in the column of a take: from the call that sent this core a message
-           to drop translations, at the first, and back to it, at the second
+  arrows   from where a call sends this core a message to drop translations to
+           the first take; and back to it from the second
   hatched  from the column in which a core is sent a message to that of its
            second take: until then it may use the stale translations
 
@@ -549,6 +563,16 @@ are their addresses and BACK, of the last rectangle. Colours show the
 protection, and shades what backs them. 2000 rectangles are shown at most, from
 the lowest pages on, and the picture says so.
 
+With --history each core that has calls has a lane, and each call a bar from
+its BEGIN to its END, to scale: changes of mappings in one colour, accesses in
+another. What audit answered may follow the history, or be alone: the calls
+that it shows are lit, and all others faint. Below the bar of a lit call are
+its line's number, its request and its reply, of the first 60 of each core.
+Without an answer all are lit, and over 2000 then have no words:
+
+  radixvm audit --overlapping HISTORY > ANSWER
+  cat HISTORY ANSWER | radixvm picture --history > history.svg
+
 A line may be a note (help notes). Its ticket and its outcome are left out, and
 the lines count in the order of the text, so what threads did has a picture:
 
@@ -558,7 +582,7 @@ Examples:
   radixvm picture examples/shootdown.trace > shootdown.svg
   radixvm picture --lives examples/real/heap.trace > heap.svg
 
-Status: 0; 2 for a bad text or bad arguments, or a trace with fewer lines than
---from; 3 if reading, writing or memory failed. After an error there is no
-picture. The trace is held in memory.
+Status: 0; 2 for a bad text or bad arguments, a trace with fewer lines than
+--from, or a history without calls; 3 if reading, writing or memory failed.
+After an error there is no picture. The text is held in memory.
 ";

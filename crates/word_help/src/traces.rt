@@ -6,7 +6,7 @@ run replays a trace. It acts on each line as it is read, and writes a line for
 each event: the reply of a call, or what became of a step.
 
 Usage: radixvm run [--summary | [--echo] [--state] [--log]] [--long]
-                   [--explain] [FILE]
+                   [--brief] [FILE]
 
 Options:
   --log      adds the log: when each call had its reply (help log)
@@ -19,8 +19,7 @@ Options:
              written. Not with --long
   --summary  writes numbers of the run to standard error (help cores)
   --long     lets the trace ask for up to 2^40 calls. Not with --log
-  --explain  shows below an error the line and what was expected. It is on if
-             standard error is a terminal
+  --brief    says only where an error is, and what it is
 
 Output: help outcomes explains each line, and what to do when a call waits.
 It is flushed whenever no complete input line is waiting.
@@ -45,8 +44,8 @@ pipe is closed, or at a terminal with Ctrl-D.
                            4096 bytes, and how many calls may begin: 4096 if
                            left out, at most 1048576, or 2^40 with --long
   file N MODE LEN SEED     a file that the trace makes up: N is 0, 1, 2 and so
-                           on up to 15, MODE is r, w or rw, LEN is its length
-                           in bytes (at most 1048576), and its byte I is
+                           on up to 15, and MODE is r, w or rw. LEN is its
+                           length in bytes, at most 1048576. Its byte I is
                            (SEED + I) modulo 256
 
 An event is one of these, on core C: c0, c1 and so on up to one below CORES.
@@ -214,14 +213,14 @@ Example:
 pub const MAPS: &str = "\
 maps replays a trace, and writes the mappings at its end in order of addresses.
 
-Usage: radixvm maps [--names] [--long] [--explain] [FILE]
+Usage: radixvm maps [--names] [--long] [--brief] [FILE]
 
 Options:
   --names    adds to each line the name of its file. It is that of a comment
              # file N NAME right before the file's line in the trace, as import
              writes it. The trace is held in memory
   --long     lets the trace ask for up to 2^40 calls
-  --explain  shows below an error the line and what was expected
+  --brief    says only where an error is, and what it is
 
 Output:
   START-END PROT BACK
@@ -249,36 +248,55 @@ pub const STATE: &str = "\
 state replays a trace, and writes the state of the machine at its end: one line
 for each thing, and none for what is empty.
 
-Usage: radixvm state [--at N] [--json] [--explain] [FILE]
+Usage: radixvm state [--diff A B | --until COND |
+                      [--at N] [--json | --who ADDR]] [--brief] [FILE]
 
 Options:
-  --at N     the state after line N. Lines count from 1; vm, file and comment
-             lines change nothing. Lines after N aren't looked at
-  --json     writes the same as JSON, an object a line
-  --explain  shows below an error the line and what was expected
+  --at N        the state after line N. Lines count from 1; vm, file and
+                comment lines change nothing. Lines after N aren't looked at
+  --json        writes the same as JSON, an object a line
+  --diff A B    what differs between the states after two lines: - LINE for a
+                line of the state that goes, + LINE for one that comes
+  --who ADDR    the lines of the state that have to do with a page: they name
+                it, also as one of a range, or its frame. Before each is the
+                number of the line of the trace at which it came
+  --until COND  the first line after which the state is like this: its number,
+                and the state there. COND is one of
+                  stale   a translation is going (below)
+                  waits   a call awaits other cores
+                  unused  a frame in use has true count 0
+  --brief       says only where an error is, and what it is
 
 Output:
   epoch E
         the epoch of Refcache (help cores)
   core C CALL DOES [ADDR | START-END]
         the core has this call (mmap, munmap, mprotect, load, store or fetch;
-        or call, if it has its reply), and its next step does this with these
-        pages: it
-          checks its arguments; locks, decides on or cuts pages; looks for
-          room, or gives back pages that turned out not to be free; tells
-          other cores of the pages, and awaits cores for them; translates,
-          looks at, wants a frame for, fills, installs; unlocks; answers
+        or call, if it has its reply). DOES is its next step, with these pages:
+          checks its arguments
+          locks, cuts, unlocks     locks slots, splits one, or releases them
+          looks for room, gives back
+                                   searches free pages, or unlocks pages that
+                                   turned out not to be free
+          decides on               finds the reply
+          tells cores of           sends shootdown messages
+          awaits cores for         waits for their acks
+          translates, looks at     tries the access; after a page fault, finds
+                                   what the page has
+          wants a frame for, fills, installs
+                                   gets a frame, its bytes, and its entry
+          answers                  returns the reply
   core C holds ADDR | START-END
   core C took frame F
         the call owns these pages, and has this frame that no page has yet
-  core C tlb ADDR frame F RIGHTS
+  core C tlb ADDR frame F PROT
         the core's TLB translates the page at this address, the oldest filled
-        first. Each translation permits loads, so RIGHTS begin with r
-  core C table ADDR frame F RIGHTS
+        first. Each translation permits loads, so PROT begins with r
+  core C table ADDR frame F PROT
         the core's tables have the page, the lowest first
-  core C tlb ADDR frame F RIGHTS going: posted
-  core C table ADDR frame F RIGHTS going: posted
-  core C tlb ADDR frame F RIGHTS going: cleared
+  core C tlb ADDR frame F PROT going: posted
+  core C table ADDR frame F PROT going: posted
+  core C tlb ADDR frame F PROT going: cleared
         the translation is stale: another core asked this one to drop the page,
         and this one hasn't acknowledged. posted is before the first take;
         cleared is between the takes, when the tables have lost the page and
@@ -287,7 +305,7 @@ Output:
   core C inbox from D START-END second take due
         core D waits until this one drops these pages, the oldest message first
 
-  START-END RIGHTS BACKING
+  START-END PROT BACK
         a mapping (help maps), after the lines of all cores
   page ADDR [frame F] [cores C D ..]
         the page has a frame, or these cores are recorded on it: those that a
@@ -332,19 +350,29 @@ the line of a mapping.
 Examples:
   radixvm state --at 10 examples/shootdown.trace
   radixvm state --json examples/reuse.trace
+  radixvm state --diff 9 10 examples/shootdown.trace
+  radixvm state --at 10 --who 0x10000 examples/shootdown.trace
+  radixvm state --until stale examples/shootdown.trace
 
-Status: 0; 2 for a bad text or bad arguments, or a trace with fewer than N
-lines; 3 if reading, writing or memory failed. After an error no state is
-written.
+Status: 0; 1 if no state is as --until asks; 2 for a bad text or bad
+arguments, or a trace without such a line; 3 if reading, writing or memory
+failed. After an error no state is written.
 ";
 
 /// What ends a replay early.
 pub const FAULTS: &str = "\
-An error ends the replay. It is reported on standard error, after the output of
-all lines before it. Lines count from 1, with empty ones and comments.
+An error ends a command. It is reported on standard error, after the output of
+all lines before it:
 
-  line N: bad line   it is no line of help trace, or comes in a wrong place
-  line N: too long   it has more than 256 bytes, or in audit more than 512
+  radixvm: NAME:LINE:COLUMN: WHAT
+
+NAME is the file, or standard input. Lines and columns count from 1, lines with
+empty ones and comments, columns in bytes. Below are the line, a caret at the
+column, and what was expected there; --brief leaves these out, and the column.
+
+WHAT is one of these:
+  bad line           it is no line of help trace, or comes in a wrong place
+  too long           it has more than 256 bytes, or in audit more than 512
   no vm line first   the first line with words isn't a vm line, or there is
                      none
   setup S1           CORES isn't 1 to 64
@@ -354,14 +382,12 @@ all lines before it. Lines count from 1, with empty ones and comments.
   setup S5           CALLS is above 1048576, or with --long above 2^40
   setup S6           no memory for a space of that size
   read failed        standard input or FILE can't be read, or FILE not opened
-  write failed       standard output can't be written
+  write failed       standard output or a file can't be written
   out of memory      a step found no memory; the steps before it remain
 
-With --explain, or if standard error is a terminal, the line is shown below the
-error, with a caret below the word that is wrong, and with what was expected
-there; below read failed, the file and the cause. After the output, --explain
-warns of lines that are accepted but look like mistakes: a core that the vm
-line doesn't have, and an mmap whose FLAGS have neither p nor s.
+After the output a note warns of a line that is accepted but looks like a
+mistake: a core that the vm line doesn't have, or an mmap whose FLAGS have
+neither p nor s. --brief leaves it out.
 
 Common causes of a bad line:
   PROT of two letters             rw for rw-
@@ -376,13 +402,15 @@ Common causes of a bad line:
 A core that the vm line doesn't have is no bad line: its events are idle.
 
 Status, of all commands:
-  0  the text was read to its end, whatever its calls replied; what was asked
-     for holds
-  1  it doesn't hold: audit found a wrong reply or no order, certify refused
-     notes, litmus has a clause that fails
-  2  a bad text or bad arguments
-  3  reading, writing or memory failed (also setup S6), or audit and litmus
-     couldn't decide
+  0    yes: the text was read to its end, whatever its calls replied, and what
+       was asked for holds
+  1    no: audit found a wrong reply or no order, certify refused notes, litmus
+       has a clause that fails
+  2    a bad text or bad arguments
+  3    the system failed: reading, writing, memory (also setup S6) or a thread
+  4    undecided: audit found no order, or litmus has a clause that is open
+  141  the reader of standard output has gone, as in radixvm run | head.
+       Nothing is reported then
 ";
 
 /// What a newcomer to the model needs of cores.
@@ -439,15 +467,15 @@ error, each with its number on a line of its own:
 With it the trace's steps are made one by one.
 ";
 
-/// What `page` writes.
+/// What `html` writes.
 pub const PAGE: &str = "\
-page replays a trace, and writes one page of HTML that steps through it. The
-page needs no network and no other file.
+html replays a trace, and writes one page of HTML that steps through it. The
+page needs no network and no other file. page is its older name.
 
-Usage: radixvm page [--explain] [FILE]
+Usage: radixvm html [--brief] [FILE]
 
 Options:
-  --explain  shows below an error the line and what was expected
+  --brief    says only where an error is, and what it is
 
 On the left are the trace's lines, each with its reply once it is made, and
 below it the lines of the log that it adds (help log). On the right is the
@@ -473,7 +501,7 @@ an error has no page. It is held in memory, and may ask for as many calls as
 with run --log.
 
 Example:
-  radixvm page examples/lessons/going.trace > going.html
+  radixvm html examples/lessons/going.trace > going.html
 
 Status: 0; 2 for a bad text or bad arguments; 3 if reading, writing or memory
 failed.

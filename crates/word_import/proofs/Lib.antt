@@ -1,2 +1,3 @@
 mod JoinedLemmas
+mod RepliedLemmas
 mod TimeLemmas

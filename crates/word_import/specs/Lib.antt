@@ -3,3 +3,5 @@ pub mod Status
 pub mod Words
 pub mod Joined
 pub mod Times
+pub mod Replied
+pub mod Replying

@@ -6,6 +6,7 @@ use Rattle.import_log.specs.declared.each.ProcessTrace.{ProcessTrace}
 use Rattle.import_log.specs.declared.import.Ending.{Ending}
 use Rattle.import_log.specs.declared.import.Ending.TheVariants.{Written, Nothing, Absent, Refused}
 use Rattle.trace_io.specs.declared.fault.IoFault.{IoFault}
+use Rattle.word_import.specs.declared.replying.RepliesReport.{RepliesReport}
 
 -- of a log of strace: 2 where there is no trace, since no request would be in it, no line is about the thread that was named, or the log
 -- is refused
@@ -18,6 +19,11 @@ ending_status (Refused refusal) = 2
 abbrev pub log_status : Result MapsReport IoFault → ℕ
 log_status (Ok told) = ending_status told.report.ending
 log_status (Err f) = 3
+
+-- of a log of strace with its replies
+abbrev pub replies_status : Result RepliesReport IoFault → ℕ
+replies_status (Ok r) = ending_status r.told.report.ending
+replies_status (Err f) = 3
 
 -- of a log of strace, each process apart: 2 where none has a trace
 abbrev pub parts_status : List ProcessTrace → ℕ

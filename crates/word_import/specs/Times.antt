@@ -1,8 +1,11 @@
 -- When a line of strace was written, as its first words say.
-use Rattle.std.specs.Prelude.{ℕ, zero, suc, ◌+◌, ◌-◌, ◌*◌, ◌^◌, Bool, true, ◌&&◌, ◌||◌, List, [], ◌∷◌, Option, None, Some, if◌then◌else◌, ◌==◌, codes, drop, min, nat_le, nat_lt}
+use Rattle.std.specs.Prelude.{ℕ, zero, suc, ◌+◌, ◌-◌, ◌*◌, ◌^◌, Bool, true, false, ◌&&◌, ◌||◌, List, [], ◌∷◌, Option, None, Some, if◌then◌else◌, ◌==◌, codes}
+use Rattle.std.specs.Prelude.{drop, length, min, nat_le, nat_lt}
 use Rattle.std.specs.Str.{bytes_eq}
 use Rattle.trace_text.specs.Words.{byte}
-use Rattle.import_forms.specs.Tokens.{Token, begins_by, front_token}
+use Rattle.trace_text.specs.Request.{◌>>=◌}
+use Rattle.import_forms.specs.Stamps.{is_time}
+use Rattle.import_forms.specs.Tokens.{Token, begins_by, front_token, split_at_last}
 
 -- a decimal digit
 abbrev pub is_digit : ℕ → Bool
@@ -30,9 +33,18 @@ abbrev pub digits_from : ℕ → List ℕ → ℕ
 digits_from n [] = n
 digits_from n (x ∷ xs) = digits_from (with_digit n x) xs
 
--- a time of the day, `HH:MM:SS`, or the seconds since 1970, which have ten digits since 2001; both may have parts of a second behind them
+abbrev pub is_long : Option (List ℕ × List ℕ) → Bool
+is_long None = false
+is_long (Some parts) = nat_le 6 (length parts.1)
+
+-- six digits stand behind the last point, or more
+abbrev pub is_fine : Token → Bool
+is_fine token = is_long (split_at_last (byte (codes ".")) token)
+
+-- A time of the day, `HH:MM:SS`, or the seconds since 1970, which have ten digits since 2001; both with microseconds or nanoseconds, since many
+-- calls are of one second.
 abbrev pub is_moment : Token → Bool
-is_moment token = are_of_time token
+is_moment token = are_of_time token && is_fine token
     && (nat_le 10 (front_digits token) || ((front_digits token == 2) && begins_by (codes ":") (drop (front_digits token) token)))
 
 -- The number that its digits spell. Times of one log have one form, so they are in the order of these.
@@ -59,3 +71,32 @@ moment_within (suc n) bytes = moment_next (moment_within n) (front_token bytes)
 -- the time that a line tells, behind at most `pid` and a number
 abbrev pub moment_of : List ℕ → Option ℕ
 moment_of line = moment_within 3 line
+
+-- ---- in nanoseconds
+
+-- digits of seconds since 1970, in which these have ten, as nanoseconds: with six behind the point, or nine
+abbrev pub since_1970 : ℕ → Option ℕ
+since_1970 n = if nat_lt n (10 ^ 15) then None
+    else if nat_lt n (9 * 10 ^ 15) then Some (n * 1000)
+    else if nat_lt n (10 ^ 18) then None
+    else if nat_lt n (9 * 10 ^ 18) then Some n
+    else None
+
+-- the time that a line tells before its call
+unfoldable pub began_ns : List ℕ → Option ℕ
+began_ns line = do
+  moment ← moment_of line
+  since_1970 moment
+
+-- digits of which so many bytes stand behind the point, a `>` among them, as nanoseconds
+abbrev pub long_for : ℕ → ℕ → Option ℕ
+long_for n places = if (places == 7) && nat_lt n (9 * 10 ^ 15) then Some (n * 1000)
+    else if (places == 10) && nat_lt n (9 * 10 ^ 18) then Some n
+    else None
+
+-- how long a call took, `<SECONDS>` at the end of its line
+unfoldable pub took_ns : List ℕ → Option ℕ
+took_ns line = do
+  words ← split_at_last (byte (codes " ")) line
+  point ← split_at_last (byte (codes ".")) words.1
+  if is_time words.1 then long_for (digits_from 0 words.1) (length point.1) else None

@@ -88,14 +88,15 @@ fn read_logs<'a, F: Files>(
     Ok(logs)
 }
 
-/// Reads these files to their ends, and makes one log of theirs: all lines in the order of their times, each behind the number of
-/// the thread that its file's name ends with.
+/// Reads these files to their ends, and makes one log of theirs: all lines in the order of their times, each behind
+/// the number of the thread that its file's name ends with, where no line of the file names one.
 pub fn gather<'a, F: Files>(
     files: &F,
     alloc: Global,
     names: &[&'a str],
 ) -> Result<JoinedLog, Ungathered<'a>>
-    ensures { IfOk result (λ joined. IsGathered (map thread_of names.now) joined.text.items joined.untimed) }
+    ensures { IfOk result (λ joined. IsGathered (map thread_of names.now) joined.text.items
+        joined.untimed joined.unplaced) }
 {
     let logs = match read_logs(files, alloc, names) {
         Ok(logs) => logs,
@@ -140,8 +141,8 @@ fn save_part<F: Files>(
     }
 }
 
-/// Writes the traces of these processes into this folder, `NUMBER.trace` each. An `Err` is that of a file or of the folder: then some
-/// of them may be there.
+/// Writes the traces of these processes into this folder, `NUMBER.trace` each. An `Err` is that of a file or of the
+/// folder: then some of them may be there.
 pub fn save_parts<F: Files>(
     files: &F,
     alloc: Global,

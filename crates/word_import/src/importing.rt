@@ -5,11 +5,12 @@ ghost use Rattle.import_steps.specs.Counts.{total};
 ghost use Rattle.import_log.specs.Each.{parted, parts_of};
 ghost use Rattle.import_steps.specs.Taking.{nothing_taken};
 ghost use Rattle.word_import.specs.Status.{ending_status, parts_status};
-ghost use Rattle.word_import.specs.Words.{ImportsAccesses, ImportsEach, ImportsLog};
+ghost use Rattle.word_import.specs.Words.{ImportsAccesses, ImportsEach, ImportsLog, ImportsReplies};
 ghost use Rattle.trace_io.specs.Io.{read_from, written_to};
 ghost use Rattle.trace_io.specs.Source.{Reads};
 
 use crate::progress::Progress;
+use crate::replying::{RepliesReport, ReplyClock, import_replies};
 use import_forms::looks::{Looks, looks_of};
 use import_lackey::traced::{LackeyReport, trace_log};
 use import_log::each::{ProcessTrace, import_log_each};
@@ -25,6 +26,7 @@ use std::io::Write;
 use trace_io::IoFault;
 use trace_io::sink::Sink;
 use trace_io::source::Source;
+use trace_words::fault::TraceFault;
 use word_parts::ended::{Ended, Trouble};
 use word_parts::pointing::{expect, show_line};
 
@@ -110,6 +112,11 @@ fn tell_left<E: Write>(counts: &LineCounts, errors: &mut E) {
         errors,
     );
     tell_count(counts.unread, "left out: in a form that isn't read", errors);
+    tell_count(
+        counts.unmapped,
+        "left out: mprotect of pages that no line maps",
+        errors,
+    );
     tell_lost(&counts.lost, errors);
 }
 
@@ -296,6 +303,14 @@ fn tell_refusal<E: Write>(process: u64, refusal: Refusal, errors: &mut E) {
             errors,
             "radixvm: it can't be told whose lines these are that have no number: record with strace -f -o FILE"
         ),
+        Refusal::Broken => writeln!(
+            errors,
+            "radixvm: a message of strace's stands within a line: record with strace -f -o FILE"
+        ),
+        Refusal::Untimed => writeln!(
+            errors,
+            "radixvm: several files, and some call has no times: record with strace -ff -ttt -T -o FILE"
+        ),
     };
 }
 
@@ -369,19 +384,23 @@ fn status_of_parts(parts: &[ProcessTrace]) -> u8
     2
 }
 
-// Prints the fault as `radixvm: ` and its text, and answers the status.
-fn tell_fault<E: Write>(fault: IoFault, errors: &mut E) -> Ended
+// How an import ends with this fault.
+fn ended_by(fault: IoFault) -> Ended
     ensures { result.status ≡ 3 }
 {
-    let _ = writeln!(errors, "radixvm: {fault}");
+    let fault = match fault {
+        IoFault::ReadFailed => TraceFault::ReadFailed,
+        IoFault::NoMemory => TraceFault::NoMemory,
+        IoFault::WriteFailed => TraceFault::WriteFailed,
+    };
     Ended {
         status: 3,
-        trouble: Trouble::Nothing,
+        trouble: Trouble::Fault(fault),
     }
 }
 
 /// Makes a trace of a list of mappings and of a log of strace, of the process that is chosen, prints what became of the lines of
-/// both on `errors`, or a fault as `radixvm: ` and its text, and answers the status: 0; 2 where there is no trace, since no request
+/// both on `errors`, and answers how that ended: with 0; 2 where there is no trace, since no request
 /// would be in it, no line is about the thread that was named, or the log is refused; or 3 for a fault. Where that is wanted, `errors` shows how far a
 /// long import has come.
 pub fn import<L: Source, S: Source, W: Sink, E: Write>(
@@ -409,12 +428,70 @@ pub fn import<L: Source, S: Source, W: Sink, E: Write>(
                 trouble: Trouble::Nothing,
             }
         }
-        Err(fault) => tell_fault(fault, errors),
+        Err(fault) => ended_by(fault),
     }
 }
 
-/// Makes a trace of each process of a log of strace, prints what became of the log's lines for each on `errors`, or a fault as
-/// `radixvm: ` and its text, and answers the status: 0; 2 where no process has a trace; or 3 for a fault, at which there are no
+// Prints how many calls have their replies, and what judges them.
+fn tell_replies<E: Write>(report: &RepliesReport, errors: &mut E) {
+    let calls = report.calls;
+    let judge = match report.clock {
+        ReplyClock::Times | ReplyClock::Lines => "audit --overlapping",
+        ReplyClock::Order => "audit",
+    };
+    let _ = writeln!(
+        errors,
+        "import: {calls} calls with their replies, for {judge}"
+    );
+}
+
+// Prints what is said about the replies of a log.
+fn tell_replied<E: Write>(report: &RepliesReport, choice: Choice, errors: &mut E)
+    requires entries { entries_total report.now.told.entries < 2 ^ 64 }
+    requires lines { total report.now.told.report.counts < 2 ^ 64 }
+{
+    tell_entries(&report.told.entries, errors);
+    if let Ending::Written = report.told.report.ending {
+        tell_replies(report, errors);
+    }
+    tell_report(&report.told.report, choice, errors);
+}
+
+/// Writes the calls of the chosen process of a log of strace, of one file or of several, with their replies, behind the mappings of a
+/// list; prints what became of the lines of both on `errors`, and answers how that ended: with 0; 2 where
+/// nothing is written, as for `import`, or since a line is broken by a message of strace's, or some call of several files has no times;
+/// or 3 for a fault. Where that is wanted, `errors` shows how far a long import has come.
+pub fn import_calls<L: Source, S: Source, W: Sink, E: Write>(
+    alloc: Global,
+    list: &mut L,
+    reader: &mut S,
+    out: &mut W,
+    errors: &mut E,
+    choice: Choice,
+    several: bool,
+    shows: bool,
+) -> Ended
+    ensures ends { ImportsReplies choice several (read_from L.Source list.old list.new)
+        (read_from S.Source reader.old reader.new) (written_to W.Sink out.old out.new) result.status }
+    ensures within { result.status ≤ 3 }
+{
+    let mut progress = Progress::new(errors, shows);
+    let told = import_replies(alloc, list, reader, out, choice, several, &mut progress);
+    progress.clear();
+    match told {
+        Ok(report) => {
+            tell_replied(&report, choice, errors);
+            Ended {
+                status: status_of(report.told.report.ending),
+                trouble: Trouble::Nothing,
+            }
+        }
+        Err(fault) => ended_by(fault),
+    }
+}
+
+/// Makes a trace of each process of a log of strace, prints what became of the log's lines for each on `errors`, and answers how
+/// that ended: with 0; 2 where no process has a trace; or 3 for a fault, at which there are no
 /// traces. Where that is wanted, `errors` shows how far a long import has come.
 pub fn import_each<S: Source, E: Write>(
     alloc: Global,
@@ -442,12 +519,12 @@ pub fn import_each<S: Source, E: Write>(
                 trouble: Trouble::Nothing,
             }
         }
-        Err(fault) => tell_fault(fault, errors),
+        Err(fault) => ended_by(fault),
     }
 }
 
-/// Makes a trace of a log of lackey, prints how many of its lines became what on `errors`, or a fault
-/// as `radixvm: ` and its text, and answers the status: 0; 2 where there is no trace, since no request would be in it; or 3 for a
+/// Makes a trace of a log of lackey, prints how many of its lines became what on `errors`, and answers how
+/// that ended: with 0; 2 where there is no trace, since no request would be in it; or 3 for a
 /// fault.
 pub fn import_accesses<S: Source, W: Sink, E: Write>(
     alloc: Global,
@@ -467,6 +544,6 @@ pub fn import_accesses<S: Source, W: Sink, E: Write>(
                 trouble: Trouble::Nothing,
             }
         }
-        Err(fault) => tell_fault(fault, errors),
+        Err(fault) => ended_by(fault),
     }
 }

@@ -3,7 +3,8 @@
 use import_steps::meter::Meter;
 use std::io::Write;
 
-/// From so many lines on an import shows how far it has come: at 20 MB a second it takes two seconds then. No clock is at hand.
+/// From so many lines on an import shows how far it has come: at 20 MB a second it takes two seconds then. No clock is
+/// at hand.
 const LONG: usize = 400_000;
 
 /// Shows how far an import has come, where that is wanted and its log is long.
@@ -41,6 +42,6 @@ impl<'a, E: Write> Meter for Progress<'a, E> {
         let hundredth = all / 100;
         let percent = done / hundredth;
         self.is_shown = true;
-        let _ = write!(self.errors, "\rimport: part {part} of 3, {percent} % ");
+        let _ = write!(self.errors, "\rimport: part {part}, {percent} % ");
     }
 }

@@ -1,8 +1,10 @@
 //! When a line of strace was written, as its first words say.
-ghost use Rattle.std.specs.Prelude.{◌≡◌, ◌≤◌, length};
-ghost use Rattle.word_import.specs.Times.{are_of_time, digits_from, front_digits, goes_before, is_digit, is_moment, is_of_time, moment_named, moment_of, with_digit};
+ghost use Rattle.std.specs.Prelude.{◌≡◌, ◌*◌, ◌<◌, ◌≤◌, ◌^◌, IfSome, length};
+ghost use Rattle.word_import.specs.Times.{are_of_time, began_ns, digits_from, front_digits, goes_before, is_digit, is_fine, is_moment, is_of_time, long_for, moment_named, moment_of};
+ghost use Rattle.word_import.specs.Times.{since_1970, took_ns, with_digit};
 
-use import_forms::tokens::{begins, next_token};
+use import_forms::stamps::is_time;
+use import_forms::tokens::{begins, next_token, split_last};
 
 // Tells whether the byte is a decimal digit.
 fn is_digit(byte: u8) -> bool
@@ -72,13 +74,25 @@ fn digits_of(token: &[u8]) -> u64
     number
 }
 
-// Tells whether the token is a time of the day, or the seconds since 1970.
+// Tells whether six digits stand after the last point, or more.
+fn is_fine(token: &[u8]) -> bool
+    ensures { result ≡ is_fine token.now }
+{
+    match split_last(token, b'.') {
+        Some((_, part)) => part.len() >= 6,
+        None => false,
+    }
+}
+
+// Tells whether the token is a time of the day, or the seconds since 1970, with microseconds or nanoseconds.
 fn is_moment(token: &[u8]) -> bool
     ensures { result ≡ is_moment token.now }
 {
     let count = front_digits(token);
     let (_, behind) = token.split_at(count);
-    are_of_time(token) && (count >= 10 || count == 2 && begins(behind, b":".as_slice()))
+    are_of_time(token)
+        && is_fine(token)
+        && (count >= 10 || count == 2 && begins(behind, b":".as_slice()))
 }
 
 // The number that the digits of a time spell.
@@ -117,4 +131,61 @@ pub fn moment_of(line: &[u8]) -> Option<u64>
         more -= 1;
     }
     None
+}
+
+// The nanoseconds since 1970, of which the digits of a time are told.
+fn since_1970(moment: u64) -> Option<u64>
+    ensures value { result ≡ since_1970 moment }
+    ensures early { IfSome result (λ n. n < 9 * 10 ^ 18) }
+{
+    if moment < 1_000_000_000_000_000 {
+        None
+    } else if moment < 9_000_000_000_000_000 {
+        Some(moment * 1000)
+    } else if moment < 1_000_000_000_000_000_000 {
+        None
+    } else if moment < 9_000_000_000_000_000_000 {
+        Some(moment)
+    } else {
+        None
+    }
+}
+
+/// The time that a line tells before its call, in nanoseconds since 1970, where it tells microseconds or nanoseconds.
+#[tactic(auto, unfolding(crate::specs::Times::began_ns))]
+pub fn began_ns(line: &[u8]) -> Option<u64>
+    ensures value { result ≡ began_ns line.now }
+    ensures early { IfSome result (λ n. n < 9 * 10 ^ 18) }
+{
+    let moment = moment_of(line)?;
+    since_1970(moment)
+}
+
+// The nanoseconds of a time with these digits, of which this many bytes stand after the point.
+fn long_for(digits: u64, places: usize) -> Option<u64>
+    ensures value { result ≡ long_for digits places }
+    ensures short { IfSome result (λ n. n < 9 * 10 ^ 18) }
+{
+    if places == 7 && digits < 9_000_000_000_000_000 {
+        Some(digits * 1000)
+    } else if places == 10 && digits < 9_000_000_000_000_000_000 {
+        Some(digits)
+    } else {
+        None
+    }
+}
+
+/// How long the call of a line took, in nanoseconds, where the line tells microseconds or nanoseconds.
+#[tactic(auto, unfolding(crate::specs::Times::took_ns))]
+pub fn took_ns(line: &[u8]) -> Option<u64>
+    ensures value { result ≡ took_ns line.now }
+    ensures short { IfSome result (λ n. n < 9 * 10 ^ 18) }
+{
+    let (_, word) = split_last(line, b' ')?;
+    let (_, part) = split_last(word, b'.')?;
+    if is_time(word) {
+        long_for(digits_of(word), part.len())
+    } else {
+        None
+    }
 }

@@ -41,6 +41,46 @@ pub struct Echoed {
     pub logs: bool,
 }
 
+/// Two lines of a trace, by their numbers.
+#[derive(Clone, Copy)]
+pub struct LinePair {
+    /// The one.
+    pub before: u64,
+    /// The other.
+    pub after: u64,
+}
+
+/// Which page is asked about.
+#[derive(Clone, Copy)]
+pub struct PageAsked {
+    /// An address in it.
+    pub addr: u64,
+    /// The line behind which the state is, where that isn't the last one.
+    pub at: Option<u64>,
+}
+
+/// What a state may be like.
+#[derive(Clone, Copy)]
+pub enum Condition {
+    /// A translation is stale: a message is to take it away.
+    Stale,
+    /// A call awaits other cores.
+    Waits,
+    /// The count of a frame in use is 0.
+    Unused,
+}
+
+/// A question about the states of a trace.
+#[derive(Clone, Copy)]
+pub enum Question {
+    /// What differs between the states behind two lines.
+    Between(LinePair),
+    /// What has to do with a page, and since when.
+    Page(PageAsked),
+    /// Which state is the first that is like this.
+    First(Condition),
+}
+
 /// What is shown of a trace.
 #[derive(Clone, Copy)]
 pub enum Drawing {
@@ -54,6 +94,10 @@ pub enum Drawing {
     State(Option<u64>),
     /// The same as JSON.
     Objects(Option<u64>),
+    /// The calls of a history, in place of a trace.
+    History,
+    /// No picture, but the answer to a question about its states.
+    Answer(Question),
     /// No picture, but a page that steps through the trace.
     Page,
     /// No picture, but each line with what it changes in the state.

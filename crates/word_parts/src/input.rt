@@ -4,7 +4,7 @@ ghost use Rattle.word_parts.specs.Input.{IsInput, IsList, NamesStandard};
 
 use either::Either;
 use std::fs::File;
-use std::io::{Empty, Read, Write};
+use std::io::{Empty, ErrorKind, Read, Write};
 use std::{fs, io};
 
 /// Where files are opened.
@@ -22,12 +22,27 @@ pub trait Files {
     fn open(&self, path: &str) -> io::Result<Self::Open>
         ensures { IfOk result (λ file. opens self.now path.now file) };
 
-    /// Writes the bytes to the file of this path, which is made, or emptied first.
+    /// Writes the bytes to the file of this path, which is made, or replaced as a whole.
     fn save(&self, path: &str, bytes: &[u8]) -> io::Result<()>
         ensures { IfOk result (λ x. saved self.now path.now bytes.now) };
 
     /// Makes the folder of this path. Where there is one already that is no failure.
     fn make_folder(&self, path: &str) -> io::Result<()>;
+}
+
+// Writes the bytes to the file of this path, which is made, or emptied first.
+fn write_file(files: &HostRuntime, path: &str, bytes: &[u8]) -> io::Result<()> {
+    let mut file = File::create(files, path)?;
+    file.write_all(bytes)
+}
+
+// The same by a file beside it, which takes its name once it is whole: so nobody finds half of it there.
+fn replace(files: &HostRuntime, path: &str, bytes: &[u8]) -> io::Result<()> {
+    let Ok(part) = format!(in files.alloc(); "{path}.part") else {
+        return Err(io::Error::from(ErrorKind::OutOfMemory));
+    };
+    write_file(files, part.as_str(), bytes)?;
+    fs::rename(files, part.as_str(), path)
 }
 
 impl Files for HostRuntime {
@@ -42,8 +57,10 @@ impl Files for HostRuntime {
     }
 
     fn save(&self, path: &str, bytes: &[u8]) -> io::Result<()> {
-        let mut file = File::create(self, path)?;
-        file.write_all(bytes)
+        match fs::symlink_metadata(self, path) {
+            Ok(known) if !known.is_file() => write_file(self, path, bytes),
+            _ => replace(self, path, bytes),
+        }
     }
 
     fn make_folder(&self, path: &str) -> io::Result<()> {

@@ -20,7 +20,8 @@ use Rattle.trace.specs.Ends.{Completes, Ends, Stops, reading, unmade, wanting, o
 use Rattle.trace_words.specs.Faults.{TellsFaults, fault_named}
 use Rattle.trace.specs.Seen.{IsSeen}
 use Rattle.word_parts.specs.declared.asked.Drawing.{Drawing}
-use Rattle.word_parts.specs.declared.asked.Drawing.TheVariants.{Lines, Steps, Lives, State, Objects, Page, Changes, Listing}
+use Rattle.word_parts.specs.declared.asked.Drawing.TheVariants.{Answer, History, Lines, Steps, Lives, State, Objects, Page, Changes, Listing}
+use Rattle.word_parts.specs.declared.asked.Question.TheVariants.{Between, First, Page as OfPage}
 use Rattle.word_pictures.specs.Listing.{FailsToList, Listed}
 use Rattle.machine_model.specs.declared.setup.CallLimit.{CallLimit}
 use Rattle.word_pictures.specs.Picture.{Fails, PictureEnds, Records, RecordsShown, ShowsText, TextEnds, Watched, in_memory, pictured_text}
@@ -123,6 +124,10 @@ picture_failed (Lines lines) text old f why = inl (inr why, Keeps-refl old)
 picture_failed (Steps steps) text old f why = inl (inr why, Keeps-refl old)
 picture_failed (State at) text old f why = inl (inr why, Keeps-refl old)
 picture_failed (Objects at) text old f why = inl (inr why, Keeps-refl old)
+picture_failed History text old f why = inl (why, Keeps-refl old)
+picture_failed (Answer (Between pair)) text old f why = inl (inl (inr why), Keeps-refl old)
+picture_failed (Answer (OfPage page)) text old f why = inl (inl (inr why), Keeps-refl old)
+picture_failed (Answer (First condition)) text old f why = inl (inr why, Keeps-refl old)
 picture_failed Page text old f why = inl (inr why, Keeps-refl old)
 picture_failed (Changes shows) text old f why = inl (inr why, Keeps-refl old)
 picture_failed Lives text old f why = inl (inr why, Keeps-refl old)
@@ -153,6 +158,10 @@ picture_kept (Lines lines) input a b c ended h k = text_kept _ _ _ _ a b c ended
 picture_kept (Steps steps) input a b c ended h k = text_kept _ _ _ _ a b c ended h k
 picture_kept (State at) input a b c ended h k = text_kept _ _ _ _ a b c ended h k
 picture_kept (Objects at) input a b c ended h k = text_kept _ _ _ _ a b c ended h k
+picture_kept History input a b c ended h k = text_kept _ _ _ _ a b c ended h k
+picture_kept (Answer (Between pair)) input a b c ended h k = text_kept _ _ _ _ a b c ended h k
+picture_kept (Answer (OfPage page)) input a b c ended h k = text_kept _ _ _ _ a b c ended h k
+picture_kept (Answer (First condition)) input a b c ended h k = text_kept _ _ _ _ a b c ended h k
 picture_kept Page input a b c ended h k = text_kept _ _ _ _ a b c ended h k
 picture_kept (Changes shows) input a b c ended h k = text_kept _ _ _ _ a b c ended h k
 picture_kept Lives input a b c ended h k = text_kept _ _ _ _ a b c ended h k
@@ -173,6 +182,10 @@ picture_lost (Lines lines) input a b c ended h k = text_lost _ _ _ _ a b c ended
 picture_lost (Steps steps) input a b c ended h k = text_lost _ _ _ _ a b c ended h k
 picture_lost (State at) input a b c ended h k = text_lost _ _ _ _ a b c ended h k
 picture_lost (Objects at) input a b c ended h k = text_lost _ _ _ _ a b c ended h k
+picture_lost History input a b c ended h k = text_lost _ _ _ _ a b c ended h k
+picture_lost (Answer (Between pair)) input a b c ended h k = text_lost _ _ _ _ a b c ended h k
+picture_lost (Answer (OfPage page)) input a b c ended h k = text_lost _ _ _ _ a b c ended h k
+picture_lost (Answer (First condition)) input a b c ended h k = text_lost _ _ _ _ a b c ended h k
 picture_lost Page input a b c ended h k = text_lost _ _ _ _ a b c ended h k
 picture_lost (Changes shows) input a b c ended h k = text_lost _ _ _ _ a b c ended h k
 picture_lost Lives input a b c ended h k = text_lost _ _ _ _ a b c ended h k

@@ -23,7 +23,7 @@ use Rattle.word_pictures.specs.Picture.{ShowsText, TextEnds}
 use Rattle.word_pictures.proofs.PictureLemmas.{known_read}
 use Rattle.word_pictures.specs.State.{FailsTo, SeesState, lacking_state, sight_text}
 
-front_lines : (at : Option ℕ) (input front : List ℕ) → IsFront at input front → lines_of front ≡ lines_to at (lines_of input)
+pub front_lines : (at : Option ℕ) (input front : List ℕ) → IsFront at input front → lines_of front ≡ lines_to at (lines_of input)
 front_lines None input front is = ap lines_of is
 front_lines (Some n) input front is = is.1
 
@@ -43,7 +43,7 @@ was_seen s t one r machine text list old new (Ok y) x known a b is h =
 was_seen s t one r machine text list old new (Err f) x known a b is h = absurd (cc)
 
 -- what was seen of all is the state to which the lines lead
-told_as : (form : Form) (one : Seen) (s : Sight) (input : List ℕ) → IsNothing one → SeesState form one input (Ok s)
+pub told_as : (form : Form) (one : Seen) (s : Sight) (input : List ℕ) → IsNothing one → SeesState form one input (Ok s)
     → s.mirror.whole ≡ true → (t : Told) × IsTold (lines_of input) t × (sight_text form s ≡ told_text form t)
 told_as form one s input n (machine, w, counts) whole =
     let t = seen_state form one s.mirror machine input s.maps.items n w whole in

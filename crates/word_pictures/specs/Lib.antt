@@ -5,6 +5,7 @@ pub mod Lists
 pub mod Notes
 pub mod Picture
 pub mod Reading
+pub mod Saying
 pub mod State
 pub mod Stepping
 pub mod Words

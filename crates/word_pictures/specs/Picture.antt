@@ -3,6 +3,8 @@ use Rattle.std.specs.Prelude.{◌≡◌, ℕ, ◌⊎◌, min, List, Option, None
 use Rattle.std.specs.Io.KnownBytes.{Keeps, Appends}
 use Rattle.machine_model.specs.declared.setup.CallLimit.{CallLimit}
 use Rattle.machine_model.specs.declared.setup.CallLimit.TheVariants.{Usual, Long}
+use Rattle.draw_lives.specs.Calls.{has_calls}
+use Rattle.draw_lives.specs.Histories.{history_text}
 use Rattle.draw_lives.specs.Lives.{lives_text}
 use Rattle.machine_model.specs.World.{World}
 use Rattle.machine_model.specs.declared.event.Event.{Event}
@@ -10,7 +12,10 @@ use Rattle.machine_model.specs.declared.event.Outcome.{Outcome}
 use Rattle.draw_steps.specs.Canvas.{picture_text}
 use Rattle.draw_steps.specs.Places.{view_of}
 use Rattle.word_parts.specs.declared.asked.Drawing.{Drawing}
-use Rattle.word_parts.specs.declared.asked.Drawing.TheVariants.{Lines, Steps, Lives, State, Objects, Page, Changes as Changed, Listing}
+use Rattle.word_parts.specs.declared.asked.Drawing.TheVariants.{Lines, Steps, Lives, State, Objects, History, Answer, Page, Changes as Changed, Listing}
+use Rattle.word_parts.specs.declared.asked.Question.{Question}
+use Rattle.word_parts.specs.declared.asked.Question.TheVariants.{Between, First, Page as OfPage}
+use Rattle.word_pictures.specs.Saying.{FailsBetween, FailsKnown, SaysBetween, SaysFirst, SaysKnown, lacking_said, text_said}
 use Rattle.word_pictures.specs.Changing.{SaysStates, as_it_is, lacking_change}
 use Rattle.word_pictures.specs.Lining.{FailsUpTo, Lined, lacking_of, picture_drawn}
 use Rattle.word_pictures.specs.Listing.{FailsToList, Listed, lacking_nothing}
@@ -73,6 +78,22 @@ TextEnds {S} Comes Faults lacks text old new (Err f) = (Faults f × Keeps old ne
 abbrev pub Watched : {S : Type 0} → (S → World → Event → Outcome → World → S → Type 0) → S → List ℕ → S → Type 0
 Watched after one input r = IsSeen after one r Outcomes input None None
 
+-- of a history: the picture of its calls; there is none for want of memory, or since the text couldn't be read, or has no call
+abbrev pub IsHistory : List ℕ → List ℕ → Type 0
+IsHistory input text = text ≡ history_text input
+
+abbrev pub lacking_calls : List ℕ → List ℕ → Option ℕ
+lacking_calls input text = if has_calls input then None else Some 0
+
+abbrev pub LacksMemory : TraceFault → Type 0
+LacksMemory f = (f ≡ NoMemory) ⊎ (f ≡ ReadFailed)
+
+-- the answer to a question about the states: what differs between two of them, what has to do with a page, or the first that is like this
+abbrev pub AnswerEnds : Question → List ℕ → Option (List ℕ) → Option (List ℕ) → Result (Option ℕ) TraceFault → Type 0
+AnswerEnds (Between pair) input old new r = TextEnds (SaysBetween pair input) (FailsBetween pair input) lacking_said text_said old new r
+AnswerEnds (OfPage page) input old new r = TextEnds (SaysKnown page input) (FailsKnown page input) lacking_said text_said old new r
+AnswerEnds (First condition) input old new r = TextEnds (SaysFirst condition input) (Fails Usual input) lacking_said text_said old new r
+
 -- beside a recorder of columns it is the picture of the lines up to the last, from the first on; beside one of some steps that of what
 -- happened in them, beside one of changes that of lives; in place of a picture
 -- there may be the text of the state to which the lines, or the first of them, lead, or the same as JSON, the page that steps through them,
@@ -86,6 +107,8 @@ PictureEnds (State at) input old new r = TextEnds (IsTold (lines_to at (lines_of
     (lacking_state at (lines_of input)) (told_text Text) old new r
 PictureEnds (Objects at) input old new r = TextEnds (IsTold (lines_to at (lines_of input))) (FailsTo at input)
     (lacking_state at (lines_of input)) (told_text Json) old new r
+PictureEnds History input old new r = TextEnds (IsHistory input) LacksMemory (lacking_calls input) as_it_is old new r
+PictureEnds (Answer question) input old new r = AnswerEnds question input old new r
 PictureEnds Page input old new r = TextEnds (Paged input) (Fails Usual input) lacking_page (page_written input) old new r
 PictureEnds (Changed shows) input old new r = TextEnds (SaysStates shows input) (Fails Usual input) lacking_change as_it_is old new r
 PictureEnds Lives input old new r = TextEnds (Watched ChangesRecorded nothing_changed input) (Fails Long input) lacking_none (lives_of input) old new r
@@ -98,6 +121,8 @@ pictured_text (Steps steps) text = traced_text text
 pictured_text Lives text = traced_text text
 pictured_text (State at) text = text
 pictured_text (Objects at) text = text
+pictured_text History text = text
+pictured_text (Answer question) text = text
 pictured_text Page text = text
 pictured_text (Changed shows) text = text
 pictured_text (Listing limit) text = text

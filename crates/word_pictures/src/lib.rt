@@ -7,13 +7,18 @@
 //! It exists for `stepping::draw_page` and `picturing::picture`, clause `ends`. `command_line` calls it.
 #![tactic(auto)]
 
+mod between;
 mod changing;
 mod held;
+mod histories;
+mod knowing;
 mod lining;
 mod listing;
 pub mod lists;
 pub mod picturing;
 pub mod reading;
+mod saying;
+mod seeking;
 mod stating;
 mod stepping;
 pub mod traced;

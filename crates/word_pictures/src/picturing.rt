@@ -1,7 +1,7 @@
 //! What the word `picture` does.
 ghost use Rattle.std.specs.Prelude.{◌≡◌, ◌≢◌, ◌≤◌, ◌⊎◌, Err, IfErr, IfOk, None, OnOk, true};
 ghost use Rattle.std.specs.Io.KnownBytes.{Appends, Keeps};
-ghost use Rattle.word_pictures.specs.Picture.{Fails, PictureEnds, Records, RecordsShown, ShowsText, TextEnds, Watched};
+ghost use Rattle.word_pictures.specs.Picture.{AnswerEnds, Fails, PictureEnds, Records, RecordsShown, ShowsText, TextEnds, Watched};
 ghost use Rattle.word_pictures.specs.Picture.{in_memory, lacking, lacking_none, lives_of, picture_of, pictured_text};
 ghost use Rattle.word_pictures.specs.Words.{PicturesTrace};
 ghost use Rattle.draw_records.specs.Changes.{ChangesRecorded, nothing_changed};
@@ -9,7 +9,7 @@ ghost use Rattle.draw_records.specs.Looking.{recorded};
 ghost use Rattle.draw_records.specs.Recording.{nothing_recorded};
 ghost use Rattle.trace.specs.Shown.{limit_for};
 ghost use Rattle.trace_words.specs.Faults.{fault_named};
-ghost use Rattle.word_pictures.specs.Words.{picture_status};
+ghost use Rattle.word_pictures.specs.Words.{lacking_status, picture_status};
 ghost use Rattle.machine_model.specs.declared.setup.CallLimit.TheVariants.{Usual, Long};
 ghost use Rattle.trace_words.specs.declared.fault.TraceFault.TheVariants as Of;
 ghost use Rattle.trace_io.specs.Io.{TellsIo, read_from, written_to};
@@ -17,9 +17,13 @@ ghost use Rattle.trace_io.specs.Sink.{AppendsFront};
 ghost use Rattle.trace_io.specs.Source.{Reads};
 ghost use Rattle.watched.specs.Watching.{makes};
 
+use crate::between::draw_between;
 use crate::changing::draw_changes;
+use crate::histories::draw_calls;
+use crate::knowing::draw_known;
 use crate::lining::{draw_front, draw_lines};
 use crate::listing::list_named;
+use crate::seeking::draw_first;
 use crate::stating::draw_state;
 use crate::stepping::draw_page;
 use crate::traced::traced;
@@ -38,7 +42,7 @@ use trace_io::source::{Counted, Source, read_all};
 use trace_words::fault::{TraceFault, status_of_fault};
 use trace_words::show::Show;
 use watched::Watch;
-use word_parts::asked::{Drawing, StepRange};
+use word_parts::asked::{Condition, Drawing, Question, StepRange};
 use word_parts::ended::{Ended, Trouble};
 
 /// The fault of a replay in memory, which can be read and written: where it can't, there was no memory.
@@ -251,6 +255,25 @@ fn draw_all_lives<W: Sink>(
     }
 }
 
+// Replays the trace, and answers this question about its states.
+fn draw_answer<W: Sink>(
+    alloc: Global,
+    trace: &[u8],
+    out: &mut W,
+    question: Question,
+) -> Result<Option<u64>, TraceFault>
+    ensures ends { AnswerEnds question trace.now (W.contents out.old) (W.contents out.new) result }
+    ensures read { result ≢ Err Of.ReadFailed }
+    ensures write { result ≡ Err Of.WriteFailed → W.failed out.new ≡ true }
+    ensures kept { (result ≡ Err Of.WriteFailed) ⊎ (W.failed out.new ≡ W.failed out.old) }
+{
+    match question {
+        Question::Between(pair) => draw_between(alloc, trace, out, pair),
+        Question::Page(page) => draw_known(alloc, trace, out, page),
+        Question::First(condition) => draw_first(alloc, trace, out, condition),
+    }
+}
+
 /// Replays the trace, and writes this picture of it.
 pub fn draw_text<W: Sink, E: Write>(
     alloc: Global,
@@ -270,6 +293,8 @@ pub fn draw_text<W: Sink, E: Write>(
         Drawing::Lives => draw_all_lives(alloc, trace, out),
         Drawing::State(at) => draw_state(alloc, trace, out, at, Form::Text),
         Drawing::Objects(at) => draw_state(alloc, trace, out, at, Form::Json),
+        Drawing::History => draw_calls(alloc, trace, out),
+        Drawing::Answer(question) => draw_answer(alloc, trace, out, question),
         Drawing::Page => draw_page(alloc, trace, out),
         Drawing::Changes(shows) => draw_changes(alloc, trace, out, shows),
         Drawing::Listing(limit) => list_named(alloc, trace, out, limit),
@@ -342,31 +367,61 @@ fn draw_trace<S: Source, W: Sink, E: Write>(
     }
 }
 
+// What a state is like, as the end of a sentence.
+fn words_of_condition(condition: Condition) -> &'static str {
+    match condition {
+        Condition::Stale => "is a translation stale",
+        Condition::Waits => "does a core wait for others",
+        Condition::Unused => "is the count of a frame in use 0",
+    }
+}
+
+// The status where what is asked for is lacking.
+fn lacking_status(drawing: Drawing) -> u8
+    ensures value { result ≡ lacking_status drawing }
+    ensures within { result ≤ 2 }
+{
+    match drawing {
+        Drawing::Answer(Question::First(_)) => 1,
+        _ => 2,
+    }
+}
+
 // Says that what is asked for is behind all that there is.
 fn tell_lacking<E: Write>(all: u64, drawing: Drawing, errors: &mut E) {
     let _ = match drawing {
         Drawing::Lines(_) => writeln!(
             errors,
-            "radixvm: the trace has {all} lines: --from is behind them"
+            "radixvm: the trace has {all} lines: --from is after them"
+        ),
+        Drawing::History => writeln!(errors, "radixvm: no line tells a call of a history"),
+        Drawing::Answer(Question::First(condition)) => writeln!(
+            errors,
+            "radixvm: the trace has {all} lines: after none of them {}",
+            words_of_condition(condition)
+        ),
+        Drawing::Answer(_) => writeln!(
+            errors,
+            "radixvm: the trace has {all} lines: the one asked for is after them"
         ),
         Drawing::State(_) | Drawing::Objects(_) => writeln!(
             errors,
-            "radixvm: the trace has {all} lines: --at is behind them"
+            "radixvm: the trace has {all} lines: --at is after them"
         ),
         _ => writeln!(
             errors,
-            "radixvm: the trace has {all} steps: --from is behind them"
+            "radixvm: the trace has {all} steps: --from is after them"
         ),
     };
 }
 
-/// Prints the fault that there is, or that the steps or the line asked for are lacking, and answers the status.
+/// Prints that the steps or the line asked for are lacking, where they are, and answers how a picture ended.
 pub fn tell_end<E: Write>(
     ended: Result<Option<u64>, TraceFault>,
     drawing: Drawing,
     errors: &mut E,
 ) -> Ended
-    ensures value { result.status ≡ picture_status ended }
+    ensures value { result.status ≡ picture_status drawing ended }
     ensures within { result.status ≤ 3 }
 {
     match ended {
@@ -377,25 +432,21 @@ pub fn tell_end<E: Write>(
         Ok(Some(all)) => {
             tell_lacking(all, drawing, errors);
             Ended {
-                status: 2,
+                status: lacking_status(drawing),
                 trouble: Trouble::Nothing,
             }
         }
-        Err(fault) => {
-            let _ = writeln!(errors, "radixvm: {fault}");
-            Ended {
-                status: status_of_fault(fault),
-                trouble: Trouble::Fault(fault),
-            }
-        }
+        Err(fault) => Ended {
+            status: status_of_fault(fault),
+            trouble: Trouble::Fault(fault),
+        },
     }
 }
 
 /// Reads the trace into memory, replays it, and writes a picture of it, with the names of files that its comments tell: of what happened
 /// in these steps, or in the first 2,000 of them, which is then said on `errors`; or of the lives of mappings over all steps; or, in
-/// place of a picture, the state behind a line or at the end, each line with what it changes in it, or the list of the mappings at the end. Prints
-/// a fault, of which there is no picture, as `radixvm: ` and its text, and answers the status: 0, or
-/// that of the fault. A trace that ends before the first of the steps, or before the line, has no picture either: that is reported,
+/// place of a picture, the state behind a line or at the end, each line with what it changes in it, or the list of the mappings at the end. Answers how that
+/// ended: with 0, or the status of an error, of which there is no picture. A trace that ends before the first of the steps, or before the line, has no picture either: that is reported,
 /// and the status is 2.
 pub fn picture<S: Source, W: Sink, E: Write>(
     alloc: Global,

@@ -4,6 +4,8 @@ ghost use Rattle.std.specs.Io.KnownBytes.{Keeps};
 ghost use Rattle.word_pictures.specs.Picture.{ShowsText, TextEnds};
 ghost use Rattle.word_pictures.specs.State.{FailsTo, SeesState, lacking_state, sight_text};
 ghost use Rattle.state_text.specs.Fronts.{lines_to};
+ghost use Rattle.state_text.specs.declared.form.Form.TheVariants.{Text};
+ghost use Rattle.word_pictures.specs.Saying.{TellsState};
 ghost use Rattle.state_text.specs.Traces.{told_text};
 ghost use Rattle.state_changes.specs.Leads.{IsTold};
 ghost use Rattle.trace_words.specs.declared.fault.TraceFault.TheVariants as Of;
@@ -97,6 +99,38 @@ fn write_seen<W: Sink>(
         return Err(TraceFault::WriteFailed);
     }
     Ok(None)
+}
+
+// The text of what was seen, where all of it was.
+fn text_of(alloc: Global, sight: &Sight) -> Result<Vec<u8>, TraceFault>
+    ensures whole { IfOk result (λ text. sight.now.mirror.whole ≡ true) }
+    ensures text { IfOk result (λ text. text.items ≡ sight_text Text sight.now) }
+    ensures err { IfErr result (λ f. f ≡ Of.NoMemory) }
+{
+    if !sight.mirror.is_whole() {
+        return Err(TraceFault::NoMemory);
+    }
+    let mut text = Vec::new(alloc);
+    match put_sight(&mut text, sight, Form::Text) {
+        Ok(()) => Ok(text),
+        Err(_) => Err(TraceFault::NoMemory),
+    }
+}
+
+/// The text of the state behind this line of the trace, or at its end.
+pub(crate) fn text_at(alloc: Global, trace: &[u8], at: Option<u64>) -> Result<Vec<u8>, TraceFault>
+    ensures ok { IfOk result (λ text. TellsState at trace.now text.items) }
+    ensures err { IfErr result (FailsTo at trace.now) }
+    ensures read { result ≢ Err Of.ReadFailed }
+    ensures unwritten { result ≢ Err Of.WriteFailed }
+{
+    let Ok(mirror) = Mirror::new(alloc) else {
+        return Err(TraceFault::NoMemory);
+    };
+    match see(alloc, front_of(trace, at), mirror, Form::Text) {
+        Ok(sight) => text_of(alloc, &sight),
+        Err(fault) => Err(fault),
+    }
 }
 
 /// Replays the trace up to this line, or to its end, and writes the state there in this form; or tells how many lines there are, where that one is

@@ -1,5 +1,6 @@
 -- How the word `litmus` ends.
 use Rattle.std.proofs.Common.{◌≡◌, ◌≢◌, ◌⊎◌, ℕ, true, List, inl, inr, refl, sym, subst}
+use Rattle.std.specs.declared.alloc.Global.{Global}
 use Rattle.word_runs.specs.Litmus.{TellsBeside, TellsTest, TestEnds, litmus_status}
 use Rattle.word_runs.specs.declared.litmus_tests.Test.{Test}
 use Rattle.litmus.specs.Asked.{FailsAs}
@@ -13,7 +14,7 @@ use Rattle.trace_io.specs.declared.fault.IoFault.{IoFault}
 use Rattle.trace_io.specs.declared.fault.IoFault.TheVariants.{ReadFailed, NoMemory, WriteFailed}
 use Rattle.trace_io.proofs.LineLemmas.{reads_map, reads_none}
 
-want_fails : (wanted : LitmusAsk) (counts lines : List (List ℕ)) → FailsAs wanted counts lines (Why.Text (TextOf.Io NoMemory))
+want_fails : (wanted : LitmusAsk) (counts lines : List (List ℕ)) → FailsAs Global wanted counts lines (Why.Text (TextOf.Io NoMemory))
 want_fails (Outcomes view) counts lines = inl (inl (inl refl))
 want_fails Program counts lines = inl refl
 want_fails Observed counts lines = inl (inl refl)

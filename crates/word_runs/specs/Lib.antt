@@ -1,3 +1,4 @@
+pub mod Answering
 pub mod Litmus
 pub mod Status
 pub mod Witness

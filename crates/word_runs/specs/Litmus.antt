@@ -1,5 +1,5 @@
 -- What the word `litmus` does.
-use Rattle.std.specs.Prelude.{◌≡◌, ◌⊎◌, ℕ, true, List, Option, min}
+use Rattle.std.specs.Prelude.{◌≡◌, ◌⊎◌, ℕ, true, List, Option, if◌then◌else◌, ◌==◌}
 use Rattle.std.specs.Io.KnownBytes.{Appends}
 use Rattle.std.specs.declared.alloc.Global.{Global}
 use Rattle.word_runs.specs.declared.litmus_tests.Test.{Test}
@@ -20,6 +20,10 @@ litmus_status (Why.Live LiveOf.NotCertified) = 1
 litmus_status (Why.Live f) = 3
 litmus_status fault = 2
 
+-- of what is told of the test: 4 where a clause is open, or not all outcomes are known
+abbrev pub told_status : ℕ → ℕ
+told_status n = if n == 0 then 0 else if n == 1 then 1 else 4
+
 -- what is told of the test was written, and gives the status
 pub record TellsAll (test : Test) (counts input : List ℕ) (old new : Option (List ℕ)) (n : ℕ) : Type 0 where
   pub name : List ℕ
@@ -27,12 +31,12 @@ pub record TellsAll (test : Test) (counts input : List ℕ) (old new : Option (L
   pub status : ℕ
   pub tells : TellsAs Global name test.wanted test.limit (lines_of counts) (lines_of input) text status
   pub written : Appends old new text
-  pub status_is : n ≡ min status 3
+  pub status_is : n ≡ told_status status
 
 -- nothing was written, for this fault
 pub record TellsNone (test : Test) (counts input : List ℕ) (old new : Option (List ℕ)) (n : ℕ) : Type 0 where
   pub fault : TestFault
-  pub fails : FailsAs test.wanted (lines_of counts) (lines_of input) fault
+  pub fails : FailsAs Global test.wanted (lines_of counts) (lines_of input) fault
   pub same : new ≡ old
   pub status_is : n ≡ litmus_status fault
 

@@ -24,12 +24,12 @@ pub record IsPictured (asked : WitnessPicture) (input : List ℕ) (out : Written
   pub pictures : PictureEnds asked.drawing text out.before out.after ended
   pub write : ended ≡ Err WriteFailed → out.failed ≡ true
   pub all : (ended ≡ Err WriteFailed) ⊎ ((out.failed ≡ out.had_failed) × (out.is_flushed ≡ true))
-  pub status_is : n ≡ picture_status ended
+  pub status_is : n ≡ picture_status asked.drawing ended
 
 -- nothing was written, for a fault for which no witness is told
 pub record IsUnpictured (asked : WitnessPicture) (input : List ℕ) (out : WrittenTo) (n : ℕ) : Type 0 where
   pub fault : TestFault
-  pub fails : Fails (Witness asked.number) (lines_of input) fault
+  pub fails : Fails Global (Witness asked.number) (lines_of input) fault
   pub same : out.after ≡ out.before
   pub status_is : n ≡ litmus_status fault
 

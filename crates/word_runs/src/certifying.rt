@@ -1,4 +1,4 @@
-//! What the word `certify` does.
+//! What the command `certify` does.
 ghost use Rattle.std.specs.Prelude.{◌≤◌};
 ghost use Rattle.word_runs.specs.Words.{CertifiesNotes};
 ghost use Rattle.trace_io.specs.Io.{read_from, written_to};
@@ -7,19 +7,16 @@ use notes_text::certify_text;
 use radix_range::RadixMap;
 use slot_lock::SlotMap;
 use std::alloc::Allocator;
-use std::io::Write;
 use trace_io::sink::Sink;
 use trace_io::source::Source;
 use trace_words::fault::status_of_fault;
 use word_parts::ended::{Ended, Trouble};
 
-/// Certifies the notes, prints a fault as `radixvm: ` and its text, and answers the status: 0 where they are certified,
-/// 1 where they are refused, or that of the fault.
-pub fn certify<A: Allocator + Clone + Drop, S: Source, W: Sink, E: Write>(
+/// Certifies the notes, and answers how that ended: with 0 where they are certified, 1 where they are refused, or the status of an error.
+pub fn certify<A: Allocator + Clone + Drop, S: Source, W: Sink>(
     alloc: A,
     reader: &mut S,
     out: &mut W,
-    errors: &mut E,
 ) -> Ended
     ensures ends { CertifiesNotes A
         ⟦<RadixMap<A> as SlotMap>⟧.parts ⟦<RadixMap<A> as SlotMap>⟧.can_fold ⟦<RadixMap<A> as SlotMap>⟧.folds
@@ -35,12 +32,9 @@ pub fn certify<A: Allocator + Clone + Drop, S: Source, W: Sink, E: Write>(
             status: 1,
             trouble: Trouble::Nothing,
         },
-        Err(fault) => {
-            let _ = writeln!(errors, "radixvm: {fault}");
-            Ended {
-                status: status_of_fault(fault),
-                trouble: Trouble::Fault(fault),
-            }
-        }
+        Err(fault) => Ended {
+            status: status_of_fault(fault),
+            trouble: Trouble::Fault(fault),
+        },
     }
 }

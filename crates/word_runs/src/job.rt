@@ -1,4 +1,4 @@
-//! What the program does once its words are read.
+//! What the command `run` does.
 ghost use Rattle.std.specs.Prelude.{◌≡◌, ◌≤◌};
 ghost use Rattle.word_runs.specs.Words.{EchoesTrace, ReplaysTrace};
 ghost use Rattle.trace_words.specs.Status.{status_of};
@@ -12,21 +12,26 @@ use trace::echo::replay_echoing;
 use trace::replay::{Replayed, replay_summing, replay_telling};
 use trace_io::sink::Sink;
 use trace_io::source::Source;
+use trace_words::fault::status_of_fault;
 use watched::Summary;
 use word_parts::asked::Shows;
 use word_parts::ended::{Ended, Trouble};
 
-/// Prints the replay's fault, and answers the status.
-pub(crate) fn tell_end<A: Allocator, E: Write>(replayed: &Replayed<A>, errors: &mut E) -> Ended
+// How the replay ended.
+fn ended_as<A: Allocator>(replayed: &Replayed<A>) -> Ended
     ensures value { result.status ≡ status_of replayed.now.ended }
     ensures within { result.status ≤ 3 }
 {
-    let status = replayed.tell(errors);
-    let trouble = match replayed.ended {
-        Ok(()) => Trouble::Nothing,
-        Err(fault) => Trouble::Fault(fault),
-    };
-    Ended { status, trouble }
+    match replayed.ended {
+        Ok(()) => Ended {
+            status: 0,
+            trouble: Trouble::Nothing,
+        },
+        Err(fault) => Ended {
+            status: status_of_fault(fault),
+            trouble: Trouble::Fault(fault),
+        },
+    }
 }
 
 // As `run`, step by step, and prints the numbers of the run after it.
@@ -43,16 +48,15 @@ fn run_summing<A: Allocator + Clone + Drop, S: Source, W: Sink, E: Write>(
 {
     let mut summary = Summary::new();
     let replayed = replay_summing(alloc, reader, out, shows.show, shows.limit, &mut summary);
-    let ended = tell_end(&replayed, errors);
+    let ended = ended_as(&replayed);
     if ended.status == 0 {
         tell_summary(&summary, errors);
     }
     ended
 }
 
-/// Replays the trace, showing what is asked for, prints a fault as `radixvm: ` and its
-/// text, and answers the status: 0, or that of the fault. Where that is asked for, the numbers of a
-/// run without fault come after it.
+/// Replays the trace, showing what is asked for, and answers how it ended: with 0, or the status of an error. Where that is asked for, the
+/// numbers of a run without error come after it.
 pub fn run<A: Allocator + Clone + Drop, S: Source, W: Sink, E: Write>(
     alloc: A,
     reader: &mut S,
@@ -68,16 +72,15 @@ pub fn run<A: Allocator + Clone + Drop, S: Source, W: Sink, E: Write>(
         return run_summing(alloc, reader, out, errors, shows);
     }
     let replayed = replay_telling(alloc, reader, out, shows.show, shows.limit);
-    tell_end(&replayed, errors)
+    ended_as(&replayed)
 }
 
 /// As `run`, of outcomes, and shows each line of an event beside its outcome, with the `vm` and
 /// `file` lines, and, where logs are asked for, below each line what it adds to the log.
-pub fn run_echoing<A: Allocator + Clone + Drop, S: Source, W: Sink, E: Write>(
+pub fn run_echoing<A: Allocator + Clone + Drop, S: Source, W: Sink>(
     alloc: A,
     reader: &mut S,
     out: &mut W,
-    errors: &mut E,
     limit: CallLimit,
     coloured: bool,
     logs: bool,
@@ -87,5 +90,5 @@ pub fn run_echoing<A: Allocator + Clone + Drop, S: Source, W: Sink, E: Write>(
     ensures within { result.status ≤ 3 }
 {
     let replayed = replay_echoing(alloc, reader, out, limit, coloured, logs, &[]);
-    tell_end(&replayed, errors)
+    ended_as(&replayed)
 }

@@ -1,7 +1,7 @@
-//! What the word `litmus` does.
+//! What the command `litmus` does.
 ghost use Rattle.std.specs.Prelude.{◌≡◌, ◌≤◌, ◌⊎◌, true};
 ghost use Rattle.trace_io.specs.Io.{read_from, written_to};
-ghost use Rattle.word_runs.specs.Litmus.{TellsBeside, TellsTest, TestEnds, litmus_status};
+ghost use Rattle.word_runs.specs.Litmus.{TellsBeside, TellsTest, TestEnds, litmus_status, told_status};
 
 use litmus::{LitmusAsk, LiveTestFault, TestFault};
 use litmus_text::LitmusFault;
@@ -13,7 +13,7 @@ use trace_io::IoFault;
 use trace_io::sink::{Sink, write_out};
 use trace_io::source::{Source, read_all};
 use word_parts::keeping::KeptText;
-use word_parts::pointing::{expect, show_line, tell};
+use word_parts::pointing::Report;
 
 /// What is asked for of a litmus test.
 #[derive(Clone, Copy)]
@@ -51,12 +51,11 @@ pub fn test_name(file: Option<&str>) -> &str {
     }
 }
 
-/// Prints why nothing is told of a test, and answers the status: 2 where the text is at fault, 3 where its surroundings are.
-pub fn refuse<E: Write>(fault: TestFault, errors: &mut E) -> TestEnded
+/// How the command ends where nothing is told of a test: with 2 where the text is at fault, 3 where the system is.
+pub fn refuse(fault: TestFault) -> TestEnded
     ensures status { result.status ≡ litmus_status fault }
     ensures within { result.status ≤ 3 }
 {
-    let _ = writeln!(errors, "radixvm: {fault}");
     let status = match fault {
         TestFault::Live(LiveTestFault::NotCertified) => 1,
         TestFault::Text(LitmusFault::Io(_)) | TestFault::Live(_) => 3,
@@ -75,8 +74,22 @@ fn tell_outside<E: Write>(wanted: LitmusAsk, status: u8, errors: &mut E) {
     {
         let _ = writeln!(
             errors,
-            "radixvm: an outcome isn't listed, which is a fault of radixvm"
+            "radixvm: an outcome isn't listed, which is an error of radixvm"
         );
+    }
+}
+
+// The program's status for that of what is told: 4 where a clause is open, or the limit was met.
+fn status_told(status: u8) -> u8
+    ensures value { result ≡ told_status status }
+    ensures within { result ≤ 4 }
+{
+    if status == 0 {
+        0
+    } else if status == 1 {
+        1
+    } else {
+        4
     }
 }
 
@@ -93,7 +106,7 @@ fn tell_test<T: Threads + Wait + Sync, W: Sink, E: Write>(
 ) -> TestEnded
     ensures ends { TestEnds test counts.now text.now (W.contents out.old) (W.contents out.new) result.status
         ⊎ ((result.status ≡ 3) × (W.failed out.new ≡ true)) }
-    ensures within { result.status ≤ 3 }
+    ensures within { result.status ≤ 4 }
 {
     let told = match litmus::tell(
         rt,
@@ -105,18 +118,15 @@ fn tell_test<T: Threads + Wait + Sync, W: Sink, E: Write>(
         test.limit as usize,
     ) {
         Ok(told) => told,
-        Err(fault) => return refuse(fault, errors),
+        Err(fault) => return refuse(fault),
     };
     tell_outside(test.wanted, told.status, errors);
     match write_out(out, told.text.as_slice()) {
         Ok(()) => TestEnded {
-            status: told.status.min(3),
+            status: status_told(told.status),
             fault: None,
         },
-        Err(_) => refuse(
-            TestFault::Text(LitmusFault::Io(IoFault::WriteFailed)),
-            errors,
-        ),
+        Err(_) => refuse(TestFault::Text(LitmusFault::Io(IoFault::WriteFailed))),
     }
 }
 
@@ -132,17 +142,17 @@ fn litmus_beside<T: Threads + Wait + Sync, S: Source, W: Sink, E: Write>(
     test: Test,
 ) -> TestEnded
     ensures ends { TellsBeside test counts.now (read_from S.Source reader.old reader.new) (written_to W.Sink out.old out.new) result.status }
-    ensures within { result.status ≤ 3 }
+    ensures within { result.status ≤ 4 }
 {
     match read_all(alloc, reader) {
         Ok(text) => tell_test(rt, alloc, name, counts, text.as_slice(), out, errors, test),
-        Err(fault) => refuse(TestFault::Text(LitmusFault::Io(fault)), errors),
+        Err(fault) => refuse(TestFault::Text(LitmusFault::Io(fault))),
     }
 }
 
-/// Lists the outcomes of a litmus test with this name, or what else is asked for, prints a fault as `radixvm: ` and its text, and answers the
-/// status: 0 where all clauses hold, 1 where one fails, 3 where one is open or the limit was met, or that of the fault. Of the counts that
-/// the list names, or of runs on threads: 1 where the outcome of one isn't listed, but 3 where not all outcomes are known.
+/// Lists the outcomes of a litmus test with this name, or what else is asked for, and answers how that ended: with 0 where all clauses hold,
+/// 1 where one fails, 4 where one is open or the limit was met, or the status of an error. Of the counts that the list names, or of runs on
+/// threads: 1 where the outcome of one isn't listed, but 4 where not all outcomes are known.
 pub fn litmus<T: Threads + Wait + Sync, L: Source, S: Source, W: Sink, E: Write>(
     rt: &T,
     alloc: Global,
@@ -155,7 +165,7 @@ pub fn litmus<T: Threads + Wait + Sync, L: Source, S: Source, W: Sink, E: Write>
 ) -> TestEnded
     ensures does { TellsTest test (read_from L.Source list.old list.new) (read_from S.Source reader.old reader.new)
         (written_to W.Sink out.old out.new) result.status }
-    ensures within { result.status ≤ 3 }
+    ensures within { result.status ≤ 4 }
 {
     match read_all(alloc, list) {
         Ok(counts) => litmus_beside(
@@ -168,80 +178,73 @@ pub fn litmus<T: Threads + Wait + Sync, L: Source, S: Source, W: Sink, E: Write>
             errors,
             test,
         ),
-        Err(fault) => refuse(TestFault::Text(LitmusFault::Io(fault)), errors),
+        Err(fault) => refuse(TestFault::Text(LitmusFault::Io(fault))),
     }
 }
 
 // Shows the line with this number.
-fn show_number<E: Write>(number: u64, kept: &KeptText, errors: &mut E) {
+fn show_number<E: Write>(number: u64, kept: &KeptText, report: &mut Report<'_, E>) {
     if let Some(line) = kept.line(number) {
-        show_line(line, errors);
+        report.show(line);
     }
 }
 
-// Writes what is known of a fault of the text beside its own words.
-fn explain_text<E: Write>(fault: LitmusFault, kept: &KeptText, errors: &mut E) {
+// Says what is known of an error of the text.
+fn explain_text<E: Write>(fault: LitmusFault, kept: &KeptText, report: &mut Report<'_, E>) {
     match fault {
         LitmusFault::BadLine(number) => {
-            show_number(number, kept, errors);
-            expect(
-                "an event in the opening; behind together cC! REQ, final ADDR, final maps or a clause",
-                errors,
+            show_number(number, kept, report);
+            report.expect(
+                "an event in the opening; after together cC! REQ, final ADDR, final maps or a clause",
             );
-            tell("for example never c1.1 = segv maperr and c1.2 = 2", errors);
+            report.tell("for example never c1.1 = segv maperr and c1.2 = 2");
         }
-        LitmusFault::TooLong(_) => expect("at most 256 bytes in a line", errors),
+        LitmusFault::TooLong(_) => report.expect("at most 256 bytes in a line"),
         LitmusFault::Placed(number) => {
-            show_number(number, kept, errors);
-            expect(
+            show_number(number, kept, report);
+            report.expect(
                 "an mmap at a place that it names, with the flag f: one without it may get many places",
-                errors,
             );
         }
         LitmusFault::NoCall(number) => {
-            show_number(number, kept, errors);
-            expect(
-                "cC.N with a core C that has N calls or more behind together, counted from 1",
-                errors,
+            show_number(number, kept, report);
+            report.expect(
+                "cC.N with a core C that has N calls or more after together, counted from 1",
             );
         }
         LitmusFault::NoFinal(number) => {
-            show_number(number, kept, errors);
-            expect("a line final ADDR for each address of a clause", errors);
+            show_number(number, kept, report);
+            report.expect("a line final ADDR for each address of a clause");
         }
-        LitmusFault::NoCalls => expect("a line cC! REQ behind together", errors),
-        LitmusFault::NoVmLine => expect("vm CORES FRAMES in front, for example vm 2 16", errors),
+        LitmusFault::NoCalls => report.expect("a line cC! REQ after together"),
+        LitmusFault::NoVmLine => report.expect("vm CORES FRAMES in front, for example vm 2 16"),
         LitmusFault::Setup(_) | LitmusFault::Io(_) => {}
     }
 }
 
-/// Writes what is known of a fault beside its text: its line, and what was expected.
-pub fn explain_litmus<E: Write>(fault: TestFault, kept: &KeptText, errors: &mut E) {
+/// Says what is known of an error and its place: its line, and what was expected.
+pub fn explain_litmus<E: Write>(fault: TestFault, kept: &KeptText, report: &mut Report<'_, E>) {
     match fault {
-        TestFault::Text(fault) => explain_text(fault, kept, errors),
-        TestFault::Open(_) => expect(
+        TestFault::Text(fault) => explain_text(fault, kept, report),
+        TestFault::Open(_) => report.expect(
             "an opening in which each call is answered: cC finish goes on with one that waits",
-            errors,
         ),
-        TestFault::NoOutcome(_) => expect(
+        TestFault::NoOutcome(_) => report.expect(
             "a number of an outcome, from 1, as litmus lists them",
-            errors,
         ),
-        TestFault::NoWitness(_) => expect("an outcome that isn't (open)", errors),
-        TestFault::NoCall => expect(
+        TestFault::NoWitness(_) => report.expect("an outcome that isn't (open)"),
+        TestFault::NoCall => report.expect(
             "whole calls cC! REQ, flushes and reviews in the opening",
-            errors,
         ),
-        TestFault::NoMaps => expect("a test without final maps", errors),
-        TestFault::NoTask => expect(
+        TestFault::NoMaps => report.expect("a test without final maps"),
+        TestFault::NoTask => report.expect(
             "whole calls cC! REQ, flushes and reviews in the opening",
-            errors,
         ),
-        TestFault::Live(LiveTestFault::NotPlain) => expect("more frames in the vm line", errors),
+        TestFault::Live(LiveTestFault::NotPlain) => report.expect("more frames in the vm line"),
         TestFault::Live(_) => {}
         TestFault::BadCount(_) => {
-            expect("COUNT: OUTCOME, an empty line, or a comment", errors);
-            tell("for example 12: c0 done; c1 1, 2", errors);
+            report.expect("COUNT: OUTCOME, an empty line, or a comment");
+            report.tell("for example 12: c0 done; c1 1, 2");
         }
     }
 }

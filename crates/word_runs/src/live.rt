@@ -1,4 +1,4 @@
-//! What the word `live` does: a script is run on threads.
+//! What the command `live` does: a script is run on threads.
 ghost use Rattle.std.specs.Prelude.{◌≡◌, ◌≤◌};
 ghost use Rattle.word_runs.specs.Status.{script_status, shared_status};
 ghost use Rattle.word_runs.specs.Words.{CertifiesRun, RunsScript, SharesScript, WritesHistory};
@@ -19,27 +19,29 @@ use trace_io::source::Source;
 use trace_words::fault::status_of_fault;
 use word_parts::ended::{Ended, Trouble};
 
-// Prints the fault as `radixvm: ` and its text, and answers the status that it ends the program with: 3 where a task of a core
-// couldn't begin, else that of its text's fault.
+// How a run ends with this fault: with 3 where a task of a core couldn't begin, which is printed here, else with the status of its text's
+// error.
 fn tell_fault<E: Write>(fault: TextFault, errors: &mut E) -> Ended
     ensures value { result.status ≡ script_status fault }
     ensures within { result.status ≤ 3 }
 {
-    let _ = writeln!(errors, "radixvm: {fault}");
     match fault {
         TextFault::Text(fault) => Ended {
             status: status_of_fault(fault),
             trouble: Trouble::Fault(fault),
         },
-        TextFault::Live(_) => Ended {
-            status: 3,
-            trouble: Trouble::Nothing,
-        },
+        TextFault::Live(_) => {
+            let _ = writeln!(errors, "radixvm: {fault}");
+            Ended {
+                status: 3,
+                trouble: Trouble::Nothing,
+            }
+        }
     }
 }
 
-/// Runs the script, and writes the notes of all its cores. Prints a fault as `radixvm: ` and its text, and answers the
-/// status: 0, or that of the fault. Where that is asked for, the numbers of the notes come after a run without fault.
+/// Runs the script, and writes the notes of all its cores. Answers how that ended: with 0, or the status of an error. Where that is asked
+/// for, the numbers of the notes come after a run without error.
 pub fn live<
     A: Allocator + Clone + Drop,
     T: Threads + Wait + Sync,
@@ -122,27 +124,28 @@ pub fn certify_live<
     }
 }
 
-// Prints the fault as `radixvm: ` and its text, and answers the status that it ends the program with: 3 where the machine is at a
-// limit, else that of its text's fault.
+// The same on one machine: 3 where that is at a limit.
 fn tell_shared<E: Write>(fault: SharedFault, errors: &mut E) -> Ended
     ensures value { result.status ≡ shared_status fault }
     ensures within { result.status ≤ 3 }
 {
-    let _ = writeln!(errors, "radixvm: {fault}");
     match fault {
         SharedFault::Text(fault) => Ended {
             status: status_of_fault(fault),
             trouble: Trouble::Fault(fault),
         },
-        SharedFault::Full => Ended {
-            status: 3,
-            trouble: Trouble::Nothing,
-        },
+        SharedFault::Full => {
+            let _ = writeln!(errors, "radixvm: {fault}");
+            Ended {
+                status: 3,
+                trouble: Trouble::Nothing,
+            }
+        }
     }
 }
 
-/// Runs the script on threads over one machine that all of them share, and writes what each core was told, and the log. Prints a
-/// fault as `radixvm: ` and its text, and answers the status: 0, or that of the fault.
+/// Runs the script on threads over one machine that all of them share, and writes what each core was told, and the log. Answers how that
+/// ended: with 0, or the status of an error.
 pub fn share_live<T: Threads + Wait + Sync, S: Source, W: Sink, E: Write>(
     rt: &T,
     alloc: Global,

@@ -9,25 +9,41 @@ use litmus::{Listing, TestFault, tell_litmus};
 use litmus_text::LitmusFault;
 use std::alloc::Global;
 use std::io::Write;
+use trace_io::IoFault;
 use trace_io::sink::Sink;
 use trace_io::source::{Source, read_all};
 use trace_words::fault::TraceFault;
 use word_parts::asked::{Drawing, WitnessPicture};
 use word_pictures::picturing::{draw_text, tell_end};
 
-// Tells how the picture ended. Nothing more is told of a fault, since the witness isn't the text that was read.
+// Why a picture isn't there, where that isn't printed here: the text that was read isn't that of the witness.
+fn fault_of<E: Write>(drawn: Result<Option<u64>, TraceFault>, errors: &mut E) -> Option<TestFault> {
+    let Err(fault) = drawn else {
+        return None;
+    };
+    match fault {
+        TraceFault::WriteFailed => Some(TestFault::Text(LitmusFault::Io(IoFault::WriteFailed))),
+        TraceFault::NoMemory => Some(TestFault::Text(LitmusFault::Io(IoFault::NoMemory))),
+        _ => {
+            let _ = writeln!(errors, "radixvm: {fault}");
+            None
+        }
+    }
+}
+
+// Tells how the picture ended.
 fn tell_drawn<E: Write>(
     drawn: Result<Option<u64>, TraceFault>,
     drawing: Drawing,
     errors: &mut E,
 ) -> TestEnded
-    ensures value { result.status ≡ picture_status drawn }
+    ensures value { result.status ≡ picture_status drawing drawn }
     ensures within { result.status ≤ 3 }
 {
     let ended = tell_end(drawn, drawing, errors);
     TestEnded {
         status: ended.status,
-        fault: None,
+        fault: fault_of(drawn, errors),
     }
 }
 
@@ -46,7 +62,7 @@ fn draw_witness<W: Sink, E: Write>(
     let view = Listing::Witness(asked.number);
     let told = match tell_litmus(&alloc, name.as_bytes(), text, view, asked.limit as usize) {
         Ok(told) => told,
-        Err(fault) => return refuse(fault, errors),
+        Err(fault) => return refuse(fault),
     };
     let drawn = draw_text(alloc, told.text.as_slice(), out, errors, asked.drawing);
     match out.flush() {
@@ -55,8 +71,7 @@ fn draw_witness<W: Sink, E: Write>(
     }
 }
 
-/// Pictures a witness of a litmus test with this name, prints a fault as `radixvm: ` and its text, and answers the status: that of
-/// `picture`, or, where there is no such witness, that of `litmus`. There is no picture then.
+/// Pictures a witness of a litmus test with this name, and answers how that ended: with the status of `picture`, or, where there is no such witness, that of `litmus`. There is no picture then.
 pub fn picture_witness<S: Source, W: Sink, E: Write>(
     alloc: Global,
     name: &str,
@@ -71,6 +86,6 @@ pub fn picture_witness<S: Source, W: Sink, E: Write>(
 {
     match read_all(alloc, reader) {
         Ok(text) => draw_witness(alloc, name, text.as_slice(), out, errors, asked),
-        Err(fault) => refuse(TestFault::Text(LitmusFault::Io(fault)), errors),
+        Err(fault) => refuse(TestFault::Text(LitmusFault::Io(fault))),
     }
 }

@@ -1,5 +1,6 @@
 -- A fault whose page is a slot of its own that nobody holds, made at once: the states that it passes, and the one that is left
-use Rattle.machine_model.proofs.Words.{◌≡◌, ℕ, suc, ◌+◌, ◌-◌, ◌<◌, ◌≤◌, Bool, false, true, Option, Some, None, Err, refl, sym, subst, ap, ◌∙◌, arith, inl, inr, ◌⊎◌}
+use Rattle.machine_model.proofs.Words.{◌≡◌, ℕ, suc, ◌+◌, ◌-◌, ◌<◌, ◌≤◌, Bool, false, true, Option, Some, None, Err, refl, sym, subst, ap, ◌∙◌, arith}
+use Rattle.machine_model.proofs.Words.{inl, inr, ◌⊎◌}
 use Rattle.machine_model.proofs.Words.{if◌then◌else◌, Back, Anon, Shared, Private, PageInfo, Reply, Access, is_anonymous, put, frame_of, info_with_core}
 use Rattle.machine_model.proofs.Words.{info_with_frame, is_allowed, by_test, put_same, Touch, with_info, Translated, Settled, is_cached, is_private_store}
 use Rattle.machine_model.proofs.Words.{settled, source, Hardware, Memory, World}

@@ -7,7 +7,8 @@ use Rattle.machine_model.proofs.Words.{no_page, no_write, Translation, has_right
 use Rattle.machine_model.proofs.Words.{World, AwaitsNobody, is_private, shows_some, prot_shown, prot_installed, awaits_in, is_open, page_of_touch}
 use Rattle.machine_model.proofs.Words.{range_held, some_has, taken_in, translated_by, frame_reached, sound_pages}
 use Rattle.machine_model.specs.declared.phase.Phase.{Phase}
-use Rattle.machine_model.specs.declared.phase.Phase.TheVariants.{Free, Check, Lock, Guess, Find, Cut, Acks, Unlock, Answer, Try, Settle, Want, Fill, CopyPost, CopyAcks, Install, Release}
+use Rattle.machine_model.specs.declared.phase.Phase.TheVariants.{Free, Check, Lock, Guess, Find, Cut, Acks, Unlock, Answer, Try, Settle, Want, Fill}
+use Rattle.machine_model.specs.declared.phase.Phase.TheVariants.{CopyPost, CopyAcks, Install, Release}
 use Rattle.std.proofs.Common.{is_some, ◌&&◌, nat_lt}
 use Rattle.std.proofs.lemmas.Bool.{or_left}
 use Rattle.vm_base.specs.declared.rights.Access.TheVariants.{Load, Store, Fetch}

@@ -1,6 +1,8 @@
 -- Frames that are counted down, page by page
-use Rattle.machine_model.proofs.Words.{◌≡◌, ℕ, ◌+◌, ◌-◌, ◌<◌, ◌≤◌, List, ◌∷◌, drop, length, get_or, Option, Some, None, true, false, sym, ap, subst, refl, arith, ◌∙◌, IfSome}
-use Rattle.machine_model.proofs.Words.{∥∥₁_elim, props, PageInfo, frame_of, has, in_has, Change, Put, Clear, Protect, range_of, frames_in, Slots, Counts, Takes, Dec, CountsOne, frame_lost}
+use Rattle.machine_model.proofs.Words.{◌≡◌, ℕ, ◌+◌, ◌-◌, ◌<◌, ◌≤◌, List, ◌∷◌, drop, length, get_or, Option, Some, None, true, false, sym, ap, subst}
+use Rattle.machine_model.proofs.Words.{refl, arith, ◌∙◌, IfSome}
+use Rattle.machine_model.proofs.Words.{∥∥₁_elim, props, PageInfo, frame_of, has, in_has, Change, Put, Clear, Protect, range_of, frames_in, Slots}
+use Rattle.machine_model.proofs.Words.{Counts, Takes, Dec, CountsOne, frame_lost}
 use Rattle.machine_model.proofs.Words.{World}
 use Rattle.std.proofs.Common.{is_some}
 use Rattle.std.proofs.lemmas.List.{drop_all, drop_more}

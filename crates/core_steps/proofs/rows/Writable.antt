@@ -1,5 +1,6 @@
 -- Files that are all open for writing, by their numbers
-use Rattle.machine_model.proofs.Words.{◌≡◌, ℕ, zero, suc, ◌+◌, ◌<◌, ◌≤◌, true, false, Option, Some, None, [], ◌∷◌, List, refl, sym, subst, ap, arith, inl, inr, ◌⊎◌}
+use Rattle.machine_model.proofs.Words.{◌≡◌, ℕ, zero, suc, ◌+◌, ◌<◌, ◌≤◌, true, false, Option, Some, None, [], ◌∷◌, List, refl, sym, subst, ap, arith}
+use Rattle.machine_model.proofs.Words.{inl, inr, ◌⊎◌}
 use Rattle.vm_base.specs.declared.rights.Mode.{Mode}
 use Rattle.vm_base.specs.Rights.{can_write}
 use Rattle.vm_base.specs.Plain.{File, mode_of}

@@ -17,7 +17,7 @@ use vm_base::info::recorded_cores;
 use vm_base::{CoreSet, PageInfo, PageRange};
 
 /// Frames that pages have, in order of pages. A few take no memory.
-pub type Frames<'a, A> = SmallVec<u32, 8, &'a A>;
+pub type FrameList<'a, A> = SmallVec<u32, 8, &'a A>;
 
 /// What pages lose by a change that takes their frames.
 #[derive(Drop)]
@@ -25,7 +25,7 @@ pub struct FramesLost<'a, A: Allocator> {
     /// The cores that are recorded on some of the pages.
     pub cores: CoreSet,
     /// The frames that the pages have, in order of pages.
-    pub frames: Frames<'a, A>,
+    pub frames: FrameList<'a, A>,
 }
 
 impl<'a, A: Allocator + Clone> Held<'a, A> {
@@ -91,7 +91,7 @@ fn lose<A: Allocator>(
 }
 
 /// Adds the frame, if there is one. False where memory is refused.
-pub fn add_frame<'a, A: Allocator>(frames: &mut Frames<'a, A>, frame: Option<u32>) -> bool
+pub fn add_frame<'a, A: Allocator>(frames: &mut FrameList<'a, A>, frame: Option<u32>) -> bool
     ensures { IsTrue result → frames.new.items ≡ frames.old.items ++ option_to_list frame }
 {
     match frame {

@@ -10,14 +10,14 @@ use Rattle.audit.proofs.judging.judge_place.Goals as goal
 pub returns-in_default-clause-judged : goal.returns-in_default-clause-judged
 returns-in_default-clause-judged g c =
     place_unsaid c.args.any_place (g.M.SlotRead.slots c.args.map.now) c.args.objects.now c.args.frames.now c.args.place c.args.reply
-    c.first_place.result c.reply_at.result (sym c.place_said-said.ensures.value ∙ c.in_default.is) c.first_place.ensures.first c.reply_at.ensures
+    c.due_place.result c.reply_at.result (sym c.place_said-said.ensures.value ∙ c.in_default.is) c.due_place.ensures.allowed c.reply_at.ensures
 
 pub returns-then-not-is_allowed-clause-judged : goal.returns-then-not-is_allowed-clause-judged
 returns-then-not-is_allowed-clause-judged g c =
     place_wrong c.args.any_place (g.M.SlotRead.slots c.args.map.now) c.args.objects.now c.args.frames.now c.args.place c.args.reply
-    c.in-Some.found c.first_place-then-not-is_allowed.result c.reply_at-then-not-is_allowed.result
+    c.in-Some.found c.due_place-then-not-is_allowed.result c.reply_at-then-not-is_allowed.result
     (sym c.place_said-said.ensures.value ∙ c.in-Some.is)
-    (λ h. let wrong : false ≡ true = (c.if-not-is_allowed.ensures {u = tt}).1 h in absurd cc) c.first_place-then-not-is_allowed.ensures.first
+    (λ h. let wrong : false ≡ true = (c.if-not-is_allowed.ensures {u = tt}).1 h in absurd cc) c.due_place-then-not-is_allowed.ensures.allowed
     c.reply_at-then-not-is_allowed.ensures
 
 pub make_change-requires-clause-kept : goal.make_change-requires-clause-kept

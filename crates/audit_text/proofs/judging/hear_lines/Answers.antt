@@ -1,7 +1,9 @@
-use Rattle.std.proofs.Common.{◌+◌, arith, ◌∙◌, refl}
+use Rattle.std.proofs.Common.{◌+◌, ap, arith, ◌∙◌, refl}
 use Rattle.std.proofs.lemmas.Result.{err_from_is_err_and}
 use Rattle.audit.specs.Auditor.{plain_of}
+use Rattle.audit_text.specs.Heard.{lacking_by}
 use Rattle.audit_text.specs.Steps.{heard_of, terms_of}
+use Rattle.audit_text.specs.declared.allowing.Terms.{Terms}
 use Rattle.audit_text.proofs.PlaceLemmas.{call_fault, call_last, call_next, hears_by, turn_fault_by, turn_verdict_by, turn_wants_by}
 use Rattle.audit_text.proofs.TextLemmas.{lines_empty, some_left}
 use Rattle.audit_text.proofs.judging.hear_lines.Goals as goal
@@ -47,12 +49,13 @@ returns-in-Some-clause-ok g c = λ lines d k. turn_verdict_by (terms_of c.lines.
 
 pub returns-then-is_empty-clause-ok : goal.returns-then-is_empty-clause-ok
 returns-then-is_empty-clause-ok g c = λ lines d k. call_last (terms_of c.args.hearing.now) lines _ d (heard_of c.lines.hearing)
-    (heard_of c.turn.new.hearing) (plain_of c.lines.hearing.auditor) (plain_of c.turn.new.hearing.auditor) c.lines.said c.lines.line _
+    (heard_of c.turn.new.hearing) (plain_of c.lines.hearing.auditor) (plain_of c.turn.new.hearing.auditor) c.lines.said c.lines.line _ _
     (c.lines.invariant.call lines d k)
     (hears_by (terms_of c.lines.hearing) (terms_of c.args.hearing.now) c.lines.invariant.terms (heard_of c.lines.hearing)
     (heard_of c.turn.new.hearing) (plain_of c.lines.hearing.auditor)
     (plain_of c.turn.new.hearing.auditor) c.lines.said c.lines.line c.in_ok-verdict.field-0 c.in_ok-verdict.ensures.turns c.in_default.is)
     (lines_empty _ _ c.is_empty.ensures c.if-is_empty.true) refl
+    (c.lacking_told.ensures ∙ ap (λ (t : Terms). lacking_by t (heard_of c.turn.new.hearing)) (c.in_ok-verdict.ensures.terms ∙ c.lines.invariant.terms))
 
 pub overflow_add-line : goal.overflow_add-line
 overflow_add-line g c = omega (arith, c.lines.invariant.room, some_left _ _ c.is_empty.ensures c.if-is_empty.false)

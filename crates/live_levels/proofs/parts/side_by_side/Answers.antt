@@ -10,7 +10,7 @@ slots-preserved g c =
     let new = c.new.ensures in
     let slots = c.slots.slots.items in
     let here : IsPlaced (c.args.first + c.slots.k * c.args.pages) c.args.pages c.new.result = search rules in
-    let unused : IsUnused c.new.result = record { owner = new.place.2; content = new.unmapped.0; changes = new.unmapped.1 } in
+    let unused : IsUnused c.new.result = record { owner = new.place.2; content = new.unmapped.0; changes = new.unmapped.1; whole = new.whole } in
     record {
       count = search rules;
       each = λ k d lt. rw c.push_reserved.ensures.items (each_push (λ j s. IsPlaced (c.args.first + j * c.args.pages) c.args.pages s) slots c.new.result

@@ -12,7 +12,7 @@ give_copy-requires g c = (
         search rules,
         (
           c.in-Some-lock_these.ensures.each 1 None (omega arith),
-          (c.in-Some-lock_these.ensures.each 0 None (omega arith), (search rules, search rules)),
+          (c.in-Some-lock_these.ensures.each 0 None (omega arith), (search rules, (c.requires.backed, c.requires.caches))),
         ),
       ),
     ),

@@ -4,6 +4,6 @@ use Rattle.live_space.proofs.making.new_file_pages.Given as goal
 
 abbrev pub invariant-pages : goal.invariant-pages
 invariant-pages g l = record {
-  count : vec_len l.pages ≡ l._page;
+  count : vec_len l.pages ≡ l.page;
   room : l.count ≤ vec_capacity l.pages;
 }

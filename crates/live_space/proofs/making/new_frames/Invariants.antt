@@ -4,6 +4,6 @@ use Rattle.live_space.proofs.making.new_frames.Given as goal
 
 abbrev pub invariant-frames : goal.invariant-frames
 invariant-frames g l = record {
-  count : vec_len l.frames ≡ l._frame;
+  count : vec_len l.frames ≡ l.number;
   room : l.fn.count ≤ vec_capacity l.frames;
 }

@@ -8,5 +8,6 @@ between-preserved c = lets_more c.args.history.now c.args.moves.now c.args.place
 
 pub returns : goal.returns
 returns c = λ e. goes_on_there c.args.history.now c.args.moves.now c.args.place c.args.now c.between.at c.args.change.now
-    c.in-Some-timed_at.last c.timed_at-2.result (omega (arith, c.if-place-now.false)) (omega (arith, c.between-test.false)) c.between.invariant c.timed_at-2.ensures
+    c.in-Some-timed_at.last c.timed_at-2.result (omega (arith, c.if-place-now.false)) (omega
+    (arith, c.between-test.false)) c.between.invariant c.timed_at-2.ensures
     c.in-Some-timed_at.is (omega (arith, c.if-change-begun.false))

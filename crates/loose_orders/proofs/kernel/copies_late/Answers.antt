@@ -9,5 +9,6 @@ returns-in_ok-goes-in-Mprotect-clause-yes g c = λ moving e.
     c.in-Some-page_accessed.page c.in-Mprotect.addr c.in-Mprotect.len c.in-Mprotect.prot c.in-Some.timed c.in-Some-call_at.change c.in-Some-move_at.one
     (plain_of c.args.auditor.now) (plain_of c.copies_old.new.auditor) c.args.kept.now (sym c.call_at.ensures ∙ c.in-Some.is)
     (sym c.move_at.ensures ∙ c.in-Some-move_at.is) c.call-of.ensures (sym c.call_at-2.ensures ∙ c.in-Some-call_at.is)
-    (sym c.page_accessed.ensures.value ∙ c.in-Some-page_accessed.is) (c.goes_on.ensures c.if-not-goes_on.false) (c.is_unseen.ensures c.if-not-is_unseen.false)
+    (c.is_late_to.ensures.within c.if-not-is_late_to.false) (sym c.page_accessed.ensures.value ∙ c.in-Some-page_accessed.is)
+    (c.is_late_to.ensures.goes_on c.if-not-is_late_to.false) (c.is_unseen.ensures c.if-not-is_unseen.false)
     c.in-Mprotect.is (c.in_ok-goes-in-Mprotect.ensures.yes e)

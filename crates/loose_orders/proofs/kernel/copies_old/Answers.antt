@@ -9,5 +9,5 @@ returns-clause-yes g c = λ e.
     (plain_of c.args.auditor.now) (plain_of c.protect.new.auditor) (plain_of c.is_copied.new.auditor)
     (plain_of c.protect-2.new.auditor) c.args.kept.now c.in-Some.old c.args.new c.args.call.now
     (c.in_ok-goes.ensures.any_place ∙ c.in_ok-is_old.ensures.any_place)
-    c.in-Some.ensures (c.in_ok-is_old.ensures.yes (ap Ok c.if-not-is_old.false))
+    (c.has_rights.ensures c.if-not-has_rights.false) c.in-Some.ensures (c.in_ok-is_old.ensures.yes (ap Ok c.if-not-is_old.false))
     (c.in_ok-goes.ensures.yes (ap Ok c.if-not-goes.false)) (c.in_ok-is_new.ensures.yes e)

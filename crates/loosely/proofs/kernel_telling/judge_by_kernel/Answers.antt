@@ -3,10 +3,10 @@ use Rattle.trace_io.proofs.IoLemmas.{tells_unread, tells_want}
 use Rattle.trace_io.proofs.LineLemmas.{reads_map}
 use Rattle.orders_text.specs.declared.faults.HistoryFault.TheVariants.{Io}
 use Rattle.overlapping.proofs.EndLemmas.{io_back, io_of}
-use Rattle.page_orders.proofs.EndLemmas.{stopped, unmade}
+use Rattle.loosely.proofs.EndLemmas.{stopped, unmade}
 use Rattle.audit.specs.Placing.{rule_of}
 use Rattle.loose_orders.specs.Kernel.{HasKernelOrder}
-use Rattle.loosely.specs.Kernel.{EndsByKernel, IsBare}
+use Rattle.loosely.specs.Kernel.{EndsByKernel, IsExplainedByKernel}
 use Rattle.loosely.proofs.kernel_telling.judge_by_kernel.Goals as goal
 
 pub returns-in-Ok-read_all-clause-ends : goal.returns-in-Ok-read_all-clause-ends
@@ -14,15 +14,16 @@ returns-in-Ok-read_all-clause-ends g c =
     let old = g.W.Sink.contents c.args.writer.now in
     let new = g.W.Sink.contents c.judge_out.new.writer in
     reads_map _ _ _ _ c.in-Ok-read_all.ensures.text
-    (λ xs ys k e. subst (λ i. EndsByKernel c.args.any_place c.args.moving i old new c.judge_out.result) (c.as_slice.ensures.value ∙ sym e) c.judge_out.ensures.ends)
+    (λ xs ys k e. subst (λ i. EndsByKernel c.args.any_place c.args.moving i old new c.judge_out.result)
+    (c.as_slice.ensures.value ∙ sym e) c.judge_out.ensures.ends)
 
 pub returns-in-Err-clause-ends : goal.returns-in-Err-clause-ends
 returns-in-Err-clause-ends g c = stopped _ _ (HasKernelOrder (rule_of c.args.any_place) c.args.moving)
-    IsBare (g.W.Sink.contents c.args.writer.now) c.in-Err.fault
+    (IsExplainedByKernel c.args.any_place) (g.W.Sink.contents c.args.writer.now) c.in-Err.fault
     (λ e. c.in-Err.ensures.write (ap Err e)) c.in-Err.ensures.kept
 
 pub returns-in_default-clause-ends : goal.returns-in_default-clause-ends
-returns-in_default-clause-ends g c = unmade _ (HasKernelOrder (rule_of c.args.any_place) c.args.moving) IsBare _
+returns-in_default-clause-ends g c = unmade _ (HasKernelOrder (rule_of c.args.any_place) c.args.moving) (IsExplainedByKernel c.args.any_place) _
 
 pub returns-in-Ok-read_all-clause-told : goal.returns-in-Ok-read_all-clause-told
 returns-in-Ok-read_all-clause-told g c =

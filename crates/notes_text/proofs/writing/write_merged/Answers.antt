@@ -1,6 +1,7 @@
 use Rattle.std.proofs.Common.{[], ◌∷◌, ◌++◌, ◌+◌, ◌∙◌, refl}
 use Rattle.seats.specs.Packing.{shown}
-use Rattle.notes_text.proofs.MergeLemmas.{first_of, found_some, merged_first, merged_last, none_found, step_merged, step_shorter, step_whole, wrote_front_of, wrote_next}
+use Rattle.notes_text.proofs.MergeLemmas.{first_of, found_some, merged_first, merged_last, none_found, step_merged, step_shorter, step_whole}
+use Rattle.notes_text.proofs.MergeLemmas.{wrote_front_of, wrote_next}
 use Rattle.trace_words.proofs.FilePieces.{nothing_yet}
 use Rattle.notes_text.proofs.writing.write_merged.Goals as goal
 

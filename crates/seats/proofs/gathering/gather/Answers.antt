@@ -5,7 +5,8 @@ use Rattle.seats.specs.Gathered.{AreWhole}
 use Rattle.seats.specs.Notes.{SeatView, ticket_of}
 use Rattle.seats.specs.Tickets.{JoinedView, Rises, TicketerView}
 use Rattle.seats.specs.declared.noted.Noted.{Noted}
-use Rattle.seats.proofs.AllSeats.{IsGathered, all_left, gathered_all, gathered_first, gathered_pushed, gathered_notes, gathered_whole, left_next, lists_more, none_there, own_front, own_next}
+use Rattle.seats.proofs.AllSeats.{IsGathered, all_left, gathered_all, gathered_first, gathered_pushed, gathered_notes, gathered_whole, left_next}
+use Rattle.seats.proofs.AllSeats.{lists_more, none_there, own_front, own_next}
 use Rattle.seats.proofs.gathering.gather.Goals as goal
 
 pub seats-init : goal.seats-init

@@ -1,4 +1,4 @@
-use Rattle.std.proofs.Common.{◌≡◌, ℕ, ◌+◌, ◌<◌, take, drop, refl, ap, ◌∙◌, arith, get_or}
+use Rattle.std.proofs.Common.{take, drop, refl, ap, ◌∙◌, arith}
 use Rattle.state_changes.specs.declared.part.DiffOp.TheVariants.{Keep}
 use Rattle.state_changes.proofs.Parts.{part_applied}
 use Rattle.state_changes.proofs.applying.apply_to.Goals as goal

@@ -1,7 +1,9 @@
-use Rattle.std.proofs.Common.{ap, ◌∙◌, ◌++◌, [], cond, append-nil, sym}
+use Rattle.std.proofs.Common.{◌≡◌, ℕ, List, arith, ap, ◌∙◌, ◌++◌, [], cond, append-nil, sym}
 use Rattle.core_steps.specs.Machine.{state}
+use Rattle.state_seen.specs.PageTexts.{texts_below}
 use Rattle.state_seen.proofs.PageTexts.{texts_more, texts_none}
 use Rattle.state_text.specs.Counts.{frame_counts}
+use Rattle.state_text.proofs.UsedFrames.{texts_end}
 use Rattle.state_text.proofs.counts.put_frames.Goals as goal
 
 pub frames-init : goal.frames-init
@@ -15,3 +17,11 @@ frames-preserved g c = record {
   written = texts_more (λ f. cond ((state c.args.machine.now).memory.is_free f) [] (frame_counts c.args.form (state c.args.machine.now) f))
       c.frames.frame c.args.out.now.items c.frames.out.items c.put_frame.new.out.items c.frames.invariant.written c.in_ok-put_frame.ensures;
 }
+
+pub returns : goal.returns
+returns g c =
+    let here : c.frames.frame ≡ c.args.end = omega (arith, c.frames-test.false, c.frames.auto.frame-end) in
+    let text : ℕ → List ℕ = (λ f. cond ((state c.args.machine.now).memory.is_free f) [] (frame_counts c.args.form (state c.args.machine.now) f)) in
+    c.frames.invariant.written ∙ ap (λ n. c.args.out.now.items ++ texts_below text n) here
+    ∙ ap (λ l. c.args.out.now.items ++ l) (sym (texts_end text c.args.end _ c.requires.0
+    (λ k from below. ap (λ b. cond b [] (frame_counts c.args.form (state c.args.machine.now) k)) (c.requires.1 k from below))))

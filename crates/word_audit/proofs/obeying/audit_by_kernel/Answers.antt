@@ -4,15 +4,15 @@ use Rattle.trace_io.proofs.IoLemmas.{tells_want}
 use Rattle.orders_text.specs.declared.faults.HistoryFault.TheVariants.{Io}
 use Rattle.audit.specs.Placing.{rule_of}
 use Rattle.loose_orders.specs.Kernel.{HasKernelOrder}
-use Rattle.loosely.specs.Kernel.{IsBare}
+use Rattle.loosely.specs.Kernel.{IsExplainedByKernel}
 use Rattle.overlapping.proofs.EndLemmas.{io_back, io_of}
-use Rattle.page_orders.proofs.EndLemmas.{unmade}
+use Rattle.loosely.proofs.EndLemmas.{unmade}
 use Rattle.word_audit.proofs.obeying.audit_by_kernel.Goals as goal
 
 pub returns-in_default-clause-ends : goal.returns-in_default-clause-ends
 returns-in_default-clause-ends g c = (
   Err (Io NoMemory),
   c.refuse_history.ensures.value,
-  unmade _ (HasKernelOrder (rule_of c.args.any_place) c.args.moving) IsBare _,
+  unmade _ (HasKernelOrder (rule_of c.args.any_place) c.args.moving) (IsExplainedByKernel c.args.any_place) _,
   tells_want Io io_of io_back _ _ refl,
 )

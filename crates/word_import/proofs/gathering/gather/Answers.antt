@@ -14,4 +14,5 @@ returns-in-Ok-join_logs g c = record {
   named = threads_of c.as_slice.result.now ∙ ap (map (λ (l : TimedLog). l.thread)) c.as_slice.ensures.value ∙ c.in-Ok.ensures;
   joined = c.in-Ok-join_logs.ensures.text;
   timeless = c.in-Ok-join_logs.ensures.untimed;
+  placeless = c.in-Ok-join_logs.ensures.unplaced;
 }

@@ -7,7 +7,8 @@ use Rattle.word_import.specs.Gathered.{IsSaved}
 use Rattle.word_import.proofs.gathering.save_parts.Goals as goal
 
 -- with one part more
-saved_more : (P : ProcessTrace → Type 0) (parts : List ProcessTrace) (n : ℕ) (p : ProcessTrace) → n < length parts → p ≡ get_or parts n p → All P (take n parts) → P p
+saved_more : (P : ProcessTrace → Type 0) (parts : List ProcessTrace) (n : ℕ) (p : ProcessTrace) → n < length parts → p ≡ get_or parts n p
+    → All P (take n parts) → P p
     → All P (take (n + 1) parts)
 saved_more P parts n p lt is held one =
     subst (All P) (sym (take_more parts n p lt ∙ ap (λ x. take n parts ++ x ∷ []) (sym is))) (All-push P (take n parts) p held one)

@@ -1,7 +1,7 @@
 use Rattle.std.proofs.Common.{sym, ◌∙◌, ap, refl, rules}
 use Rattle.vm_base.specs.Functions.{put}
 use Rattle.frames.specs.Pages.{stored_bytes, all_pages}
-use Rattle.frames.proofs.Stored.{stored-held, stored-written}
+use Rattle.frames.proofs.Stored.{stored-held, stored-written, stored-zero-byte}
 use Rattle.frames.proofs.byte_store.ByteStore.set_byte.Goals as goal
 
 pub set_byte-requires-clause-page : goal.set_byte-requires-clause-page
@@ -16,3 +16,7 @@ returns-in-Some-clause-bytes g c =
     c.self.invariant c.self.view_is at refl c.set_byte.ensures.bytes
     ∙ ap (λ b. put (stored_bytes c.args.self.now) c.args.frame (put b c.args.offset c.args.byte))
     (sym (stored-held c.args.frame c.in-Some.at c.self.view_is at))
+
+pub returns-else-byte-ne0-clause-bytes : goal.returns-else-byte-ne0-clause-bytes
+returns-else-byte-ne0-clause-bytes g c =
+    stored-zero-byte c.args.frame c.args.offset c.args.byte c.self.view_is (sym c.place_of-place.ensures ∙ c.in-None.is) (search rules)

@@ -2,6 +2,7 @@ use Rattle.std.proofs.Common.{◌∙◌}
 use Rattle.std.proofs.Common.{rules, arith, ap, refl}
 use Rattle.seats.specs.Notes.{SeatView}
 use Rattle.seats.proofs.Growing.{grew_steps}
+use Rattle.live_tree.proofs.Kept.{alike_keeps, keeps_trans}
 use Rattle.live_space.proofs.Noted.{goes_before, goes_then, goes_trans, grew_set_page}
 use Rattle.live_space.proofs.Places.{alike_count, alike_edges}
 use Rattle.live_space.proofs.in_call.InCall.put.Goals as goal
@@ -35,6 +36,8 @@ returns-clause-made g c = record {
   ready = c.reserve.new.self;
   first = c.reserve.ensures.place.0 ∙ c.cut_all.ensures.place.0;
   end = c.reserve.ensures.place.1 ∙ c.cut_all.ensures.place.1;
+  pages = keeps_trans c.args.self.now.held c.cut_all.new.self.held c.reserve.new.self c.cut_all.ensures.pages
+      (alike_keeps c.cut_all.new.self.held c.reserve.new.self c.reserve.ensures.same);
   noted = c.commit_slots.new.self.seat.now;
   made = c.commit_slots.ensures.made;
   next = c.set_next_page.ensures;

@@ -11,5 +11,12 @@ slots-preserved g c =
     let before = c.slots.self.slots in
     let some : 0 < length before = search rules in
     let left = ap (λ (v : LettingView). length v.slots) c.note_first-ticket.ensures.first ∙ length-drop 1 before in
-    let sum = c.slots.invariant.1 in
-    (suc c.slots.invariant.0, omega (arith, sum, some, left), (c.slots.stepper, c.slots.invariant.2, (c.note_first-ticket.result, c.note_first-ticket.ensures.noted)))
+    let sum = c.slots.invariant.1 in (
+      suc c.slots.invariant.0,
+      omega (arith, sum, some, left),
+      (
+        c.slots.stepper,
+        c.slots.invariant.2,
+        (c.note_first-ticket.result, c.note_first-ticket.ensures.noted),
+      ),
+    )

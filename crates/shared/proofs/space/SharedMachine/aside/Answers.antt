@@ -4,7 +4,7 @@ use Rattle.shared.specs.declared.space.Known.{Known}
 use Rattle.shared.specs.declared.space.Passed.TheVariants as By
 use Rattle.shared.specs.Cores.{Passes, CoreView, IsBeside}
 use Rattle.shared.specs.Rules.{after, holding, view_of}
-use Rattle.shared.proofs.Keeping.{aside_gives, aside_passes, full_passes, idle_still, is_idle, same_view, took_busy, took_home}
+use Rattle.shared.proofs.CallTurns.{aside_gives, aside_passes, full_passes, idle_still, is_idle, same_view, took_busy, took_home}
 use Rattle.shared.proofs.space.SharedMachine.aside.Goals as goal
 
 pub returns-then-found-eq-OUT-clause-passes : goal.returns-then-found-eq-OUT-clause-passes

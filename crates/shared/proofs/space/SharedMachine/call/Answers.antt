@@ -3,7 +3,7 @@ use Rattle.shared.specs.declared.space.Answer.TheVariants as Tells
 use Rattle.shared.specs.declared.space.Known.{Known}
 use Rattle.shared.specs.Cores.{Answers, CoreView, IsBeside}
 use Rattle.shared.specs.Rules.{after, holding, view_of}
-use Rattle.shared.proofs.Keeping.{call_answers, call_gives, full_answers, idle_still, is_idle, same_view, took_busy, took_home}
+use Rattle.shared.proofs.CallTurns.{call_answers, call_gives, full_answers, idle_still, is_idle, same_view, took_busy, took_home}
 use Rattle.shared.proofs.space.SharedMachine.call.Goals as goal
 
 pub returns-then-found-eq-OUT-clause-answers : goal.returns-then-found-eq-OUT-clause-answers

@@ -5,7 +5,7 @@ use Rattle.shared.specs.declared.series.SeriesEnd.TheVariants as For
 use Rattle.shared.specs.declared.space.Known.{Known}
 use Rattle.shared.specs.Cores.{AnswersAll, CoreView, IsBeside}
 use Rattle.shared.specs.Rules.{after, holding, view_of}
-use Rattle.shared.proofs.Keeping.{all_answers, all_gives, full_all, idle_still, is_idle, same_view, took_busy, took_home}
+use Rattle.shared.proofs.CallTurns.{all_answers, all_gives, full_all, idle_still, is_idle, same_view, took_busy, took_home}
 use Rattle.shared.proofs.space.SharedMachine.call_all.Goals as goal
 
 pub returns-then-found-eq-OUT-clause-answers : goal.returns-then-found-eq-OUT-clause-answers

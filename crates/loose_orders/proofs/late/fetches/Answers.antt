@@ -1,7 +1,0 @@
-use Rattle.audit.specs.Auditor.{plain_of}
-use Rattle.loose_orders.proofs.LateLemmas.{fetch_goes}
-use Rattle.loose_orders.proofs.late.fetches.Goals as goal
-
-pub returns-in-Some : goal.returns-in-Some
-returns-in-Some g c = λ e. fetch_goes (plain_of c.args.auditor.now) c.args.call c.args.addr c.in-Some._one c.args.kept.now c.requires
-    c.in-Some.ensures.page c.in-Some.ensures.offset c.in-Some.ensures.kept c.in-Some.ensures.due
