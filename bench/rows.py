@@ -1,6 +1,7 @@
 #!/usr/bin/env python3
 """Runs the rows of crates/test_words/data on a built program, in seconds: crates/test_words/src/main.rt says how a row is written. Prints each row that
 comes to something else, and counts them all. Rows that want a terminal are left out: `rt ci` runs those too.
+It fails, too, where crates/test_words/args doesn't name each of these files, or stdout beside it doesn't count their rows.
 Usage: bench/rows.py PROGRAM [FILE.rows..]
 """
 import concurrent.futures
@@ -68,6 +69,15 @@ def wrong_of(program, name, row):
     return wrong
 
 
+def is_listed():
+    """Tells whether the program of the rows is asked for each file, and is to count its rows."""
+    files = sorted(DATA.glob("*.rows"))
+    counts = [(path.name, path.read_bytes().count(b"\n==")) for path in files]
+    counted = "".join(f"{name}: {count} rows\n" for name, count in counts)
+    asked = (DATA.parent / "args").read_text().split()
+    return asked == [path.name for path in files] and counted == (DATA.parent / "stdout").read_text()
+
+
 def main():
     if len(sys.argv) < 2 or not os.access(sys.argv[1], os.X_OK):
         sys.exit(__doc__)
@@ -79,7 +89,9 @@ def main():
     for name, words, came in wrong:
         print(f"{name}: {words}\n  status {came.returncode}\n  out {came.stdout[:600]}\n  err {came.stderr[:600]}")
     print(f"{len(rows)} rows, {len(wrong)} wrong")
-    sys.exit(bool(wrong))
+    if not is_listed():
+        print("crates/test_words: args or stdout isn't what data has")
+    sys.exit(bool(wrong) or not is_listed())
 
 
 main()
