@@ -1,6 +1,7 @@
 mod Words
 mod Told
 pub mod Due
+mod Entering
 mod Remembered
 mod Uses
 mod Steps

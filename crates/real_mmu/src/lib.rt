@@ -12,6 +12,7 @@
 #![tactic(auto)]
 
 ghost use Rattle.real_mmu.specs.Driven.{AllDrivenRunsArePlain};
+ghost use Rattle.real_mmu.specs.Entries.{AllEntriesAreMadeThere};
 ghost use Rattle.real_mmu.specs.Fills.{AllFillsAreDue};
 ghost use Rattle.real_mmu.specs.Remembered.{AllRememberedAreGood};
 ghost use Rattle.real_mmu.specs.Steps.{AllStepsLead};
@@ -45,6 +46,12 @@ pub fn steps_lead()
 /// fill.
 pub fn fills_are_due()
     ensures { AllFillsAreDue }
+{}
+
+/// A step of the machine makes an entry of its log only where it gives a call up, or is one of a call that is in one of these
+/// phases: Check, Find, Decide, Acks, Try, Settle, Want, Fill, or CopyAcks.
+pub fn entries_are_made_there()
+    ensures { AllEntriesAreMadeThere }
 {}
 
 /// In every run, of any schedule, of the library's steps, of translations that cores' hardware takes in from the
