@@ -2,6 +2,8 @@
 """Compares all that README.md, docs/ and examples/ show of the program with what it writes: each block of indented lines of a document after a comment
 `<!-- output of: COMMAND -->`, a shell command in which `radixvm` is the program; each NAME.out of examples/, and shootdown.svg; and what the scripts
 examples/litmus/make.py, examples/lessons/make.py and examples/real/make.py make. It fails where something differs; with --write it puts the output there.
+Each text that these commands and the examples of help are given, and what comes of it, is a row of crates/test_words/data/shown.rows, which the gate runs:
+so that file is made, and compared, too. No rows have pictures, HTML, what `live` writes, or what is read from two files.
 The program is the one that examples/program.sh finds. Usage: bench/shown.py [--write]"""
 import os
 import pathlib
@@ -10,7 +12,32 @@ import subprocess
 import sys
 import tempfile
 
+import examples
+
 TOP = pathlib.Path(__file__).resolve().parent.parent
+ROWS = TOP / "crates/test_words/data/shown.rows"
+FRONT = "#! What README.md, docs/, examples/ and the help show, made by bench/shown.py: the text that a command is given, and what it writes.\n"
+# Stands for the program: keeps the arguments, the text and what came of it, and passes that on.
+RECORDER = """#!/usr/bin/env python3
+import os, subprocess, sys, tempfile
+words = sys.argv[1:]
+files = [k for k, word in enumerate(words) if os.path.isfile(word)]
+text = open(words[files[0]], "rb").read() if files else b"" if words[:1] == ["help"] else sys.stdin.buffer.read()
+came = subprocess.run([{program!r}, *words], input=None if files else text, capture_output=True)
+if len(files) < 2 and not set(words) & {{"html", "picture", "live", "help", "--to-c", "--live"}}:
+    said = [word for k, word in enumerate(words) if k not in files]
+    folder = tempfile.mkdtemp(dir={kept!r})
+    named = words[files[0]] if files else "standard input"
+    litmus = os.path.basename(named).removesuffix(".litmus").encode()
+    errors = came.stderr.replace(named.encode(), b"standard input")
+    out = came.stdout.replace(b"Observation " + litmus + b" ", b"Observation litmus ")
+    for name, value in [("words", " ".join(said).encode()), ("text", text), ("out", out), ("err", errors), ("status", b"%d" % came.returncode)]:
+        open(os.path.join(folder, name), "wb").write(value)
+sys.stdout.buffer.write(came.stdout)
+sys.stdout.flush()
+sys.stderr.buffer.write(came.stderr)
+sys.exit(came.returncode)
+"""
 BLOCK = re.compile(r"<!-- output of: (.*?) -->\n\n((?:    .*\n)*)")
 DOCUMENTS = ["README.md", *sorted(str(path.relative_to(TOP)) for path in [*TOP.glob("docs/*.md"), *TOP.glob("examples/**/*.md")])]
 MAKERS = ["litmus", "lessons", "real"]
@@ -31,15 +58,38 @@ def command_of(name):
     return COMMANDS.get(name, f"radixvm run examples/{name.removesuffix('.out')}.trace")
 
 
+def lines_of(text):
+    """A text as a row has it."""
+    if not text:
+        return ""
+    whole = text.endswith(b"\n")
+    lines = ["".join(chr(byte) if 32 <= byte < 127 and byte != 92 else f"\\x{byte:02x}" for byte in line) for line in text.removesuffix(b"\n").split(b"\n")]
+    lines = [line or "\\." for line in lines]
+    lines = [f"\\x{ord(line[0]):02x}{line[1:]}" if line.startswith(("#!", "==", "-- ")) else line for line in lines]
+    return "\n".join(lines) + ("\n" if whole else "\\c\n")
+
+
+def row_of(folder):
+    """What was kept of one run, as a row."""
+    words, text, out, err, status = ((folder / name).read_bytes() for name in ("words", "text", "out", "err", "status"))
+    row = f"\n== {words.decode()}\n{lines_of(text)}"
+    row += f"-- out\n{lines_of(out)}" if out else ""
+    row += f"-- err\n{lines_of(err)}" if err else ""
+    return row + (f"-- status {status.decode()}\n" if status != b"0" else "")
+
+
 class Shown:
     """Compares texts with what the program writes, or writes them anew."""
 
     def __init__(self, folder, writes):
-        self.path, self.writes = f"{folder}:{os.environ['PATH']}", writes
+        self.env = {**os.environ, "PATH": f"{folder}:{os.environ['PATH']}", "RADIXVM": f"{folder}/radixvm"}
+        # Two runs of `live` may write other orders: such commands are run by the program itself.
+        self.bare = {**self.env, "PATH": f"{folder}/bare:{os.environ['PATH']}"}
+        self.writes = writes
         self.count = self.differ = 0
 
     def output(self, command):
-        done = subprocess.run(["bash", "-c", command], cwd=TOP, capture_output=True, text=True, env={**os.environ, "PATH": self.path})
+        done = subprocess.run(["bash", "-c", command], cwd=TOP, capture_output=True, text=True, env=self.bare if " live " in command else self.env)
         return done.stdout
 
     def compare(self, where, command, shown, now):
@@ -74,7 +124,18 @@ class Shown:
         """What a script of its own makes."""
         self.count += 1
         script = TOP / "examples" / name / "make.py"
-        self.differ += subprocess.run([script, *([] if self.writes else ["--check"])]).returncode != 0
+        self.differ += subprocess.run([script, *([] if self.writes else ["--check"])], env=self.env).returncode != 0
+
+    def rows(self, kept):
+        """The rows of all that was run, each once."""
+        now = FRONT + "".join(sorted({row_of(folder) for folder in kept.iterdir()}))
+        self.count += 1
+        if not ROWS.exists() or ROWS.read_text() != now:
+            self.differ += 1
+            print(f"{ROWS.relative_to(TOP)}: {'written' if self.writes else 'stale'}")
+            if self.writes:
+                ROWS.write_text(now)
+        return now.count("\n==")
 
 
 def main():
@@ -82,7 +143,13 @@ def main():
     if program.returncode:
         sys.exit(program.returncode)
     with tempfile.TemporaryDirectory() as folder:
-        os.symlink(program.stdout.strip(), f"{folder}/radixvm")
+        kept = pathlib.Path(folder) / "kept"
+        kept.mkdir()
+        os.mkdir(f"{folder}/bare")
+        os.symlink(program.stdout.strip(), f"{folder}/bare/radixvm")
+        recorder = pathlib.Path(folder) / "radixvm"
+        recorder.write_text(RECORDER.format(program=program.stdout.strip(), kept=str(kept)))
+        recorder.chmod(0o755)
         shown = Shown(folder, "--write" in sys.argv[1:])
         for name in DOCUMENTS:
             shown.document(name)
@@ -90,8 +157,12 @@ def main():
             shown.example(name)
         for name in MAKERS:
             shown.maker(name)
-    print(f"{shown.count} things shown, {shown.differ} differ")
+        for _, command, _ in examples.examples():
+            shown.output(re.sub(r"> \S+$", "> /dev/null", command))
+        rows = shown.rows(kept)
+    print(f"{shown.count} things shown, {shown.differ} differ; {rows} rows")
     sys.exit(1 if shown.differ and not shown.writes else 0)
 
 
-main()
+if __name__ == "__main__":
+    main()

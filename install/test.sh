@@ -94,11 +94,12 @@ for page in "$prefix"/share/man/man?/*; do
         MANWIDTH=100 man --warnings -l "$page" > "$work/page" 2> "$work/said"
         [ ! -s "$work/said" ] || fail "$name: $(cat "$work/said")"
         # The heads of a help text are sections of its page, and another page is named as man names it.
-        "$prefix/bin/radixvm" help $topic | sed -E 's/^(Usage|Status): //; /^(Options|Examples):$/d' > "$work/help"
+        "$prefix/bin/radixvm" help $topic | sed -E 's/^(Usage|Status): //; /^(Options( of all commands)?|Examples|Status, of all commands):$/d' > "$work/help"
         sed -E -i 's/radixvm[-‐](\w+)\([157]\)/help \1/g' "$work/page"
         lacks=$(awk '{ $1 = $1 } FNR == NR { page = page " " $0; next } NF && !index(page, $0) { print; exit }' "$work/page" "$work/help")
         [ -z "$lacks" ] || fail "$name lacks: $lacks"
     fi
+    if command -v mandoc > /dev/null; then mandoc -T lint "$page" > "$work/said" || fail "$name: $(cat "$work/said")"; fi
     pages=$((pages + 1))
 done
 echo "man: $pages pages"
@@ -108,10 +109,20 @@ complete_bash() { # WORDS..
 [ "$(complete_bash pic)" = picture ] || fail "bash: pic is completed to $(complete_bash pic)"
 [ "$(complete_bash run --lo)" = "--log --long" ] || fail "bash: run --lo is completed to $(complete_bash run --lo)"
 [ "$(complete_bash help out)" = outcomes ] || fail "bash: help out is completed to $(complete_bash help out)"
+[ "$(complete_bash run --color "")" = "auto always never" ] || fail "bash: run --color is completed to $(complete_bash run --color "")"
 shells=bash
-if command -v zsh > /dev/null; then zsh -n "$prefix/share/zsh/site-functions/_radixvm" && shells="$shells, zsh"; fi
+complete_zsh() { # WORDS.., of which the last is completed: what the completion offers
+    zsh -fc '_describe() { print -l -- $commands }; _arguments() { print -l -- $@ }
+        file=$1; shift; words=("$@"); CURRENT=$#; source $file' zsh "$prefix/share/zsh/site-functions/_radixvm" radixvm "$@"
+}
+if command -v zsh > /dev/null; then
+    complete_zsh pic | grep -q '^picture:draws a trace' || fail "zsh: pic"
+    complete_zsh litmus --pic | grep -qF -e '--picture[draws that trace (help picture)]:N:' || fail "zsh: litmus --pic"
+    shells="$shells, zsh"
+fi
 if command -v fish > /dev/null; then
     [ "$(fish -c "source '$prefix/share/fish/vendor_completions.d/radixvm.fish'; complete -C 'radixvm pic'" | cut -f 1)" = picture ] || fail "fish: pic"
+    [ "$(fish -c "source '$prefix/share/fish/vendor_completions.d/radixvm.fish'; complete -C 'radixvm state --until '" | cut -f 1 | sort | xargs)" = "stale unused waits" ] || fail "fish: state --until"
     shells="$shells, fish"
 fi
 echo "completions: $shells"
