@@ -89,7 +89,7 @@ enum { /* The kinds. The first six begin a call. */
     RADIXVM_FETCH,    /* at */
     RADIXVM_GO,       /* one step of the core's call */
     RADIXVM_FRAME,    /* at: the frame that the call is to take */
-    RADIXVM_GUESS,    /* at: the page at which the call is to look for room first */
+    RADIXVM_GUESS,    /* at: the page at which the call is to look for a gap first */
     RADIXVM_WHOLE,    /* the call is to search its whole window */
     RADIXVM_TAKE,     /* the core does what the oldest message of its inbox asks */
     RADIXVM_WALK,     /* at: the page whose translation the core's TLB gets */

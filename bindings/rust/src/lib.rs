@@ -229,7 +229,7 @@ pub enum Entry {
     Copied { step: u64, call: u64, page: u64 },
 }
 
-/// Why a batch ended before its end, or one event wasn't taken, whose `at` is 0.
+/// Why a batch ended early, or why a single event, whose `at` is 0, had no outcome.
 #[derive(Clone, Copy, Debug, PartialEq, Eq)]
 pub enum Error {
     /// This event has a core above 63.
