@@ -3,8 +3,8 @@
 whose function isn't, a clause that no contract named before it has, a function that a walk names in another module, a word of code that stands
 nowhere in the sources, a command whose word, option or file isn't there, a reply beside README's first trace that isn't the program's, C or Rust
 that no compiler takes, a crate or a document that is left out, nine words in a row that stand in two documents, a sentence of more than 30 words
-or that begins with "Of", a word of ours where the field or plain English has another (`OURS`), a document over its budget, or more than 72,000 bytes
-in README.md and docs/*.md. Such words and long sentences it also finds in all else that users read: the help, headers, bindings, examples, the
+or that begins with "Of", a word of ours where the field or plain English has another (`OURS`), a word that `help formats` lacks, a document over its
+budget, or more than 72,000 bytes in README.md and docs/*.md. Such words and long sentences it also finds in all else that users read: the help, headers, bindings, examples, the
 messages of the launcher. It runs `./radixvm help` for each topic that is named and, where the program is built (or
 RADIXVM_PROGRAM names it), each command of it whose files are there. It ends with status 1 where it tells anything.
 Usage: bench/docs.py"""
@@ -307,6 +307,19 @@ def whole_faults():
             yield f"README.md doesn't name {document}"
 
 
+def format_faults():
+    """Words of commands and of requests that `help formats` lacks, or has and no line that the program reads begins so: the explanation of errors
+    has all forms of lines, and asks the reader of lines of each."""
+    grammar, forms = read("crates/word_help/src/traces.rt"), read("crates/word_faults/src/forms.rt")
+    grammar = grammar[grammar.index("pub const FORMATS") :].replace('\\"', '"')
+    productions = dict(re.findall(r"^  (\w+) +(= .*(?:\n {11}\|.*)*)", grammar, re.M))
+    said = {word for name in ("vm", "file", "event", "step", "REQ") for word in re.findall(r'"([a-z]{3,}|vm|go)"', productions[name])}
+    lines = forms.split("const FORMS", 1)[1].split('";', 1)[0].split("\n")[1:]
+    read_so = {word for line in lines for word in re.findall(r"(?<![A-Za-z])([a-z]{2,})\b", line.split(" = ")[0])}
+    for word in sorted(said ^ read_so):
+        yield f"help formats and the forms of lines differ in {word}"
+
+
 def version_faults():
     """What `--version` says of the header and of the kit, where that isn't what the header and README say."""
     said = re.search(r'VERSION_TEXT: &str = "(.*)";', read("crates/word_help/src/lib.rt"))
@@ -439,7 +452,7 @@ def main():
         for fault in faults:
             print(f"{document}: {fault}")
         count += len(faults)
-    for fault in [*whole_faults(), *head_faults(options), *version_faults(), *repeat_faults(), *other_faults(), *budget_faults()]:
+    for fault in [*whole_faults(), *head_faults(options), *version_faults(), *format_faults(), *repeat_faults(), *other_faults(), *budget_faults()]:
         print(fault)
         count += 1
     sys.exit(1 if count else 0)

@@ -1,5 +1,5 @@
-/* The built program at the other end of two pipes: a line in, its reply out, and many lines at once. Run it at the repository's root:
-   cc -o /tmp/pipe examples/pipe.c && /tmp/pipe */
+/* The program at the other end of two pipes: a line in, its reply out, and many lines at once. The program is the argument, or else radixvm on
+   the PATH: cc -o /tmp/pipe examples/pipe.c && /tmp/pipe $(examples/program.sh) */
 #include <stdio.h>
 #include <stdlib.h>
 #include <sys/wait.h>
@@ -19,7 +19,7 @@ static void ask(int count, const char *const lines[]) {
     }
 }
 
-int main(void) {
+int main(int words, char **word) {
     int in[2], out[2], status;
     if (pipe(in) || pipe(out)) return 1;
     pid_t child = fork();
@@ -28,7 +28,7 @@ int main(void) {
         dup2(in[0], 0);
         dup2(out[1], 1);
         close(in[0]), close(in[1]), close(out[0]), close(out[1]);
-        execl("./radixvm", "radixvm", "run", (char *)0);
+        execlp(words > 1 ? word[1] : "radixvm", "radixvm", "run", (char *)0);
         _exit(127);
     }
     close(in[0]), close(out[1]);

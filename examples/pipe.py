@@ -1,9 +1,11 @@
 #!/usr/bin/env python3
-"""The built program at the other end of a pipe: a line in, its reply out, and many lines at once. Run it at the repository's root."""
+"""The program at the other end of a pipe: a line in, its reply out, and many lines at once. The program is the one that program.sh finds."""
 
+import pathlib
 import subprocess
 
-program = subprocess.Popen(["./radixvm", "run"], stdin=subprocess.PIPE, stdout=subprocess.PIPE, text=True)
+found = subprocess.run([pathlib.Path(__file__).resolve().parent / "program.sh"], stdout=subprocess.PIPE, text=True, check=True)
+program = subprocess.Popen([found.stdout.strip(), "run"], stdin=subprocess.PIPE, stdout=subprocess.PIPE, text=True)
 
 
 def tell(*lines):
