@@ -1,5 +1,5 @@
 -- The cores while a script is run, from the last to the first
-use Rattle.std.proofs.Common.{◌≡◌, ℕ, zero, suc, ◌+◌, ◌-◌, ◌<◌, List, [], ◌∷◌, ◌++◌, length, map, get_or, take, drop, arith, refl, sym, ap}
+use Rattle.std.proofs.Common.{◌≡◌, ◌⊎◌, inl, inr, ⊎_elim, ℕ, zero, suc, ◌+◌, ◌-◌, ◌<◌, ◌≤◌, List, [], ◌∷◌, ◌++◌, length, map, get_or, take, drop, arith, refl, sym, ap}
 use Rattle.std.proofs.Common.{subst, ◌∙◌, append-nil, length-append, Vec, Global}
 use Rattle.std.proofs.lemmas.List.{drop_all, get_or-map, length-map, map-append, take_all, take_more}
 use Rattle.std.proofs.lemmas.Option.{slice_get-get_or}
@@ -14,17 +14,18 @@ use Rattle.trace_words.specs.Scripts.{Scripted}
 use Rattle.trace_words.specs.declared.script.Task.{Task}
 use Rattle.shared.specs.Turns.{AreInOrder, IsTold, NoneOf, left_by, log_in}
 use Rattle.shared.specs.Cores.{Agrees, CoreView, made_of, new_core, split_core, told_of}
-use Rattle.shared.specs.Histories.{history_of, replied_by, replied_in}
+use Rattle.shared.specs.Histories.{replied_by, replied_in}
 use Rattle.shared.specs.declared.history.Replied.{Replied}
 use Rattle.shared.specs.declared.history.JoinedCore.{JoinedCore}
-use Rattle.shared_script.specs.Lanes.{AreCores, AreOf, EndEach, EndsAs, IsDone, IsFresh, last_stop}
+use Rattle.shared_script.specs.Lanes.{AreCores, AreOfSpace, EndEach, EndsAs, IsDone, IsFresh, last_stop}
 use Rattle.shared_script.specs.Runs.{Fails, IsRun}
-use Rattle.shared_script.specs.Tasks.{DidTasks, DoesTasks, IsMade, Stops, asked_in, calls_of}
+use Rattle.shared_script.specs.Tasks.{DidTasks, DoesTasks, HasDone, IsMade, StopsAt, asked_in, calls_of}
 use Rattle.shared_script.specs.declared.fault.SharedFault.{SharedFault}
 use Rattle.shared_script.specs.declared.fault.SharedFault.TheVariants.{Text, Full}
 use Rattle.trace_words.specs.declared.fault.TraceFault.TheVariants.{NoMemory}
 use Rattle.shared_script.specs.declared.lane.Lane.{Lane}
-use Rattle.shared_script.proofs.TaskLemmas.{as_worlds, did_still, did_worlds, left_worlds, order_worlds}
+use Rattle.shared.specs.declared.history.Turn.{Turn}
+use Rattle.shared_script.proofs.TaskLemmas.{as_worlds, did_still, did_worlds, done_worlds, full_worlds, left_worlds, order_worlds}
 use Rattle.shared_script.proofs.EachLemmas.{Each, each_front, each_last, each_snoc}
 
 -- ---- a space is declared with some core
@@ -102,7 +103,7 @@ module _ {S : Type 0} (state : S → World) (space : TableId) (first : List S) (
         record { count = whole; each = λ at d le. each at d (omega (arith, le, whole)) }
 
   -- all are cores of the space
-  pub fresh_of : (lanes : List (Lane S)) → AreCores spare (IsFresh state space first) lanes → AreOf space lanes
+  pub fresh_of : (lanes : List (Lane S)) → AreCores spare (IsFresh state space first) lanes → AreOfSpace space lanes
   fresh_of lanes a at d lt = ap (λ (v : CoreView S). v.space) (a.each at d (omega (arith, lt, a.count))).core_is
 
 -- ---- stops
@@ -117,11 +118,31 @@ last_none last (None ∷ stops) e = let r = last_none last stops e in (r.0, none
     none f (suc k) = f k
 last_none last (Some stop ∷ stops) e = let r = last_none (Some stop) stops e in let clash = r.0 in absurd (cc)
 
-last_fails : (P : SharedFault → Type 0) (last : Option SharedFault) (stops : List (Option SharedFault)) → IfSome last P
-    → ((k : ℕ) → IfSome (get_or stops k None) P) → IfSome (last_stop last stops) P
-last_fails P last [] p f = p
-last_fails P last (None ∷ stops) p f = last_fails P last stops p (λ k. f (suc k))
-last_fails P last (Some stop ∷ stops) p f = last_fails P (Some stop) stops (f zero) (λ k. f (suc k))
+-- the last one stands at some place, and none behind it; or none does, and it is the one before them
+last_found : (last : Option SharedFault) (stops : List (Option SharedFault)) (fault : SharedFault) → last_stop last stops ≡ Some fault
+    → ((at : ℕ) × (at < length stops) × (get_or stops at None ≡ Some fault) × ((k : ℕ) → at < k → get_or stops k None ≡ None))
+    ⊎ ((last ≡ Some fault) × ((k : ℕ) → get_or stops k None ≡ None))
+last_found last [] fault e = inr (e, λ k. refl)
+last_found last (None ∷ stops) fault e =
+    ⊎_elim (λ f. inl (suc f.0, omega (arith, f.1), f.2, later f.0 f.3)) (λ f. inr (f.0, none f.1)) (last_found last stops fault e)
+  where
+    later : (at : ℕ) → ((k : ℕ) → at < k → get_or stops k None ≡ None) → (k : ℕ) → suc at < k → get_or (None ∷ stops) k None ≡ None
+    later at f zero lt = absurd (omega (arith, lt))
+    later at f (suc k) lt = f k (omega (arith, lt))
+
+    none : ((k : ℕ) → get_or stops k None ≡ None) → (k : ℕ) → get_or (None ∷ stops) k None ≡ None
+    none f zero = refl
+    none f (suc k) = f k
+last_found last (Some stop ∷ stops) fault e =
+    ⊎_elim (λ f. inl (suc f.0, omega (arith, f.1), f.2, later f.0 f.3)) (λ f. inl (0, omega arith, f.0, behind f.1)) (last_found (Some stop) stops fault e)
+  where
+    later : (at : ℕ) → ((k : ℕ) → at < k → get_or stops k None ≡ None) → (k : ℕ) → suc at < k → get_or (Some stop ∷ stops) k None ≡ None
+    later at f zero lt = absurd (omega (arith, lt))
+    later at f (suc k) lt = f k (omega (arith, lt))
+
+    behind : ((k : ℕ) → get_or stops k None ≡ None) → (k : ℕ) → 0 < k → get_or (Some stop ∷ stops) k None ≡ None
+    behind f zero lt = absurd (omega (arith, lt))
+    behind f (suc k) lt = f k
 
 -- one stop more is looked at
 pub last_more : (last : Option SharedFault) (stops : List (Option SharedFault)) (stop : Option SharedFault)
@@ -132,8 +153,17 @@ last_more last (Some found ∷ stops) stop = last_more (Some found) stops stop
 
 -- ---- the end
 
+-- a core that did not stop did all its tasks
+did_of : {S : Type 0} (state : S → World) (space : TableId) (first : List S) (tasks : List (List Task)) (core : ℕ) (before after : Lane S)
+    → IsFresh state space first core before → EndsAs state tasks before after → after.stop ≡ None
+    → HasDone state core first after.core.turns (get_or tasks core [])
+did_of {S = S} state space first tasks core before after fresh ends none =
+    subst (λ (z : CoreView S × ℕ). HasDone state z.0.core z.0.first after.core.turns (get_or tasks z.1 []))
+    (λ i. (fresh.core_is i, fresh.number i))
+    (subst (λ o. IfNone o (DoesTasks state before.core (get_or tasks before.number []) after.core)) none ends.did []
+    (subst (λ (v : CoreView S). HasDone state v.core v.first v.turns []) (sym fresh.core_is) (record { order = tt; did = refl })))
+
 module _ {S : Type 0} (state : S → World) (space : TableId) (first : List S) (tasks : List (List Task)) (new : (log_in state first).entries ≡ []) where
-  -- a core that did not stop
   done_of : (core : ℕ) (before after : Lane S) → IsFresh state space first core before → EndsAs state tasks before after
       → after.stop ≡ None → IsDone state tasks space first core after
   done_of core before after fresh ends none =
@@ -150,10 +180,7 @@ module _ {S : Type 0} (state : S → World) (space : TableId) (first : List S) (
         others = ap (λ (v : CoreView S). v.others) m.same ∙ ap (λ (v : CoreView S). v.others) fresh.core_is;
         asked = ap asked_in kept ∙ m.asked ∙ ap (λ n. calls_of (get_or tasks n [])) fresh.number;
         mine = m.mine ∙ ap (λ l. l ++ m.told) empty ∙ sym kept;
-        did = subst (λ (z : CoreView S × ℕ). DidTasks state z.0.core z.0.first after.core.turns (get_or tasks z.1 []))
-            (λ i. (fresh.core_is i, fresh.number i))
-            (subst (λ o. IfNone o (DoesTasks state before.core (get_or tasks before.number []) after.core)) none ends.did []
-            (subst (λ (v : CoreView S). DidTasks state v.core v.first v.turns []) (sym fresh.core_is) refl));
+        did = did_of state space first tasks core before after fresh ends none;
       }
 
   -- where none did
@@ -168,39 +195,69 @@ module _ {S : Type 0} (state : S → World) (space : TableId) (first : List S) (
         (sym (get_or-map (λ (lane : Lane S). lane.stop) after at d None long) ∙ (last_none None (map (λ lane. lane.stop) after) none).1 at);
   }
 
--- why one stopped that did
-pub stop_fails : {S : Type 0} (state : S → World) (tasks : List (List Task)) (before after : List (Lane S)) (space : TableId) (first : List S) (left : ℕ)
-    → AreCores left (IsFresh state space first) before → EndEach state tasks before after
-    → IfSome (last_stop None (map (λ lane. lane.stop) after)) (Stops state first)
-stop_fails {S = S} state tasks before after space first left fresh ends =
-    last_fails (Stops state first) None (map (λ lane. lane.stop) after) tt (each after (λ at d lt.
-    let within : at < length before = omega (arith, lt, ends.count) in
-    let core_is = (fresh.each at d (omega (arith, within, fresh.count))).core_is in
-    subst (λ l. IfSome (get_or after at d).stop (Stops state l)) (ap (λ (v : CoreView S). v.first) core_is) (ends.each at d d within).fails))
-  where
-    each : (lanes : List (Lane S)) → Each (λ at (lane : Lane S). IfSome lane.stop (Stops state first)) lanes → (k : ℕ)
-        → IfSome (get_or (map (λ lane. lane.stop) lanes) k None) (Stops state first)
-    each [] f k = tt
-    each (lane ∷ lanes) f zero = f zero lane (omega arith)
-    each (lane ∷ lanes) f (suc k) = each lanes (λ at d lt. f (suc at) d (omega (arith, lt))) k
+-- a core stopped by this fault, and no core before it did
+pub record LeastStop {S : Type 0} (state : S → World) (space : TableId) (first : List S) (tasks : List (List Task)) (left : ℕ) (fault : SharedFault) : Type 0 where
+  pub core : ℕ
+  pub within : core ≤ left
+  pub stops : StopsAt state (new_core state space core 0 first) (get_or tasks core []) fault
+  pub below : (k : ℕ) → k < core → (turns : List (Turn S)) × HasDone state k first turns (get_or tasks k [])
 
--- and of what script: one that declares this machine
-pub stops_fail : {S : Type 0} (state : S → World) (asked : DeclarationView) (machine : S) → (state machine).made ≡ made_by asked
-    → (state machine).calls.log ≡ [] → (fault : SharedFault) → Stops state (machine ∷ []) fault → Fails asked fault
-stops_fail state asked machine made new (Text NoMemory) s = tt
-stops_fail state asked machine made new Full s = (
-  state machine,
-  made,
-  new,
-  record {
-    turns = as_worlds state s.turns;
-    machine = state s.machine;
-    order = order_worlds state (machine ∷ []) s.turns s.order;
-    last = left_worlds state (machine ∷ []) s.turns s.machine s.last;
-    full = s.full;
-  },
-)
-stops_fail state asked machine made new _ s = absurd s
+-- the last lane that stopped is that of the least core
+pub least_stop : {S : Type 0} (state : S → World) (space : TableId) (first : List S) (tasks : List (List Task)) (left : ℕ) (before after : List (Lane S))
+    (fault : SharedFault) → AreCores left (IsFresh state space first) before → EndEach state tasks before after
+    → last_stop None (map (λ lane. lane.stop) after) ≡ Some fault → LeastStop state space first tasks left fault
+least_stop state space first tasks left before [] fault fresh ends e = absurd (omega (arith, ends.count, fresh.count))
+least_stop {S = S} state space first tasks left before (lane ∷ lanes) fault fresh ends e =
+    ⊎_elim found (λ f. let clash = f.0 in absurd (cc)) (last_found None (map (λ (l : Lane S). l.stop) (lane ∷ lanes)) fault e)
+  where
+    count : length (lane ∷ lanes) ≡ suc left
+    count = ends.count ∙ fresh.count
+
+    stop_at : (at : ℕ) → at ≤ left → get_or (map (λ (l : Lane S). l.stop) (lane ∷ lanes)) at None ≡ (get_or (lane ∷ lanes) at lane).stop
+    stop_at at le = get_or-map (λ (l : Lane S). l.stop) (lane ∷ lanes) at lane None (omega (arith, le, count))
+
+    ends_at : (at : ℕ) → at ≤ left → EndsAs state tasks (get_or before at lane) (get_or (lane ∷ lanes) at lane)
+    ends_at at le = ends.each at lane lane (omega (arith, le, fresh.count))
+
+    Found : Type 0
+    Found = (at : ℕ) × (at < length (map (λ (l : Lane S). l.stop) (lane ∷ lanes))) × (get_or (map (λ (l : Lane S). l.stop) (lane ∷ lanes)) at None ≡ Some fault)
+        × ((k : ℕ) → at < k → get_or (map (λ (l : Lane S). l.stop) (lane ∷ lanes)) k None ≡ None)
+
+    found : Found → LeastStop state space first tasks left fault
+    found (at, lt, is, none) =
+        let le : at ≤ left = omega (arith, lt, count, length-map (lane ∷ lanes) (λ (l : Lane S). l.stop)) in
+        let new = fresh.each at lane le in
+        record {
+          core = left - at;
+          within = omega arith;
+          stops = subst (λ (z : CoreView S × ℕ). StopsAt state z.0 (get_or tasks z.1 []) fault) (λ i. (new.core_is i, new.number i))
+              (subst (λ o. IfSome o (StopsAt state (get_or before at lane).core (get_or tasks (get_or before at lane).number []))) (sym (stop_at at le) ∙ is)
+              (ends_at at le).stops);
+          below = λ k less.
+              let there : left - k ≤ left = omega arith in
+              let core_is : left - (left - k) ≡ k = omega (arith, less) in (
+                (get_or (lane ∷ lanes) (left - k) lane).core.turns,
+                subst (λ c. HasDone state c first (get_or (lane ∷ lanes) (left - k) lane).core.turns (get_or tasks c [])) core_is
+                    (did_of state space first tasks (left - (left - k)) (get_or before (left - k) lane) (get_or (lane ∷ lanes) (left - k) lane)
+                    (fresh.each (left - k) lane there) (ends_at (left - k) there) (sym (stop_at (left - k) there) ∙ none (left - k) (omega (arith, less, le)))),
+              );
+        }
+
+-- and a script fails so that declares this machine
+pub least_fails : {S : Type 0} (state : S → World) (script : Scripted) (space : TableId) (machine : S) (left : ℕ) → (state machine).made ≡ made_by script.asked
+    → (state machine).calls.log ≡ [] → left ≡ script.asked.cores - 1 → 0 < script.asked.cores → (fault : SharedFault)
+    → LeastStop state space (machine ∷ []) script.tasks left fault → Fails script fault
+least_fails state script space machine left made new is pos (Text NoMemory) s = tt
+least_fails state script space machine left made new is pos Full s = record {
+  first = state machine;
+  made = made;
+  new = new;
+  core = s.core;
+  within = omega (arith, s.within, is, pos);
+  stopped = full_worlds state s.core (machine ∷ []) (get_or script.tasks s.core []) (s.stops [] (record { order = tt; did = refl }));
+  below = λ k less. let h = s.below k less in (as_worlds state h.0, done_worlds state k (machine ∷ []) h.0 (get_or script.tasks k []) h.1);
+}
+least_fails state script space machine left made new is pos _ s = absurd s.stops
 
 -- one lane more is looked at
 pub stop_next : {S : Type 0} (lanes : List (Lane S)) (n : ℕ) (d : Lane S) (last now : Option SharedFault) → n < length lanes
@@ -227,13 +284,14 @@ module _ {S : Type 0} (state : S → World) (items lent last seen : List (Lane S
   pub are_last : take n (last ++ drop (length last) items) ≡ last
   are_last = ap (λ l. take n (last ++ l)) none_left ∙ ap (take n) (append-nil last) ∙ take_all n last (omega (arith, ends.count, len))
 
-  pub seen_fails : (space : TableId) (first : List S) (left : ℕ) (o : Option SharedFault) (fault : SharedFault)
-      → AreCores left (IsFresh state space first) items → o ≡ last_stop None (map (λ lane. lane.stop) seen) → o ≡ Some fault → Stops state first fault
-  seen_fails space first left o fault fresh e f =
+  pub seen_least : (space : TableId) (first : List S) (left : ℕ) (o : Option SharedFault) (fault : SharedFault)
+      → AreCores left (IsFresh state space first) items → o ≡ last_stop None (map (λ lane. lane.stop) seen) → o ≡ Some fault
+      → LeastStop state space first tasks left fault
+  seen_least space first left o fault fresh e f =
       let same_stop : last_stop None (map (λ lane. lane.stop) last) ≡ o = ap (λ l. last_stop None (map (λ (lane : Lane S). lane.stop) l))
       (sym (are ∙ are_last)) ∙ sym e in
-      subst (λ (o : Option SharedFault). IfSome o (Stops state first)) (same_stop ∙ f)
-      (stop_fails state tasks lent last space first left (subst (λ l. AreCores left (IsFresh state space first) l) (sym same) fresh) ends)
+      least_stop state space first tasks left lent last fault (subst (λ l. AreCores left (IsFresh state space first) l) (sym same) fresh) ends
+      (same_stop ∙ f)
 
   pub seen_done : (space : TableId) (first : List S) (left : ℕ) (o : Option SharedFault) → (log_in state first).entries ≡ []
       → AreCores left (IsFresh state space first) items → o ≡ last_stop None (map (λ lane. lane.stop) seen) → o ≡ None
@@ -288,7 +346,7 @@ module _ {S : Type 0} (state : S → World) (tasks : List (List Task)) (space : 
             (λ at d lt. absurd (omega (arith, lt))) done.asked;
         did = subst (λ l. Each (λ k (t : JoinedCore S). DidTasks state k first t.turns (get_or tasks k [])) (told_of lane.core ∷ l)) (sym done.others)
             (each_snoc (λ k (t : JoinedCore S). DidTasks state k first t.turns (get_or tasks k [])) [] (told_of lane.core)
-            (λ at d lt. absurd (omega (arith, lt))) done.did);
+            (λ at d lt. absurd (omega (arith, lt))) done.did.did);
       }
 
   -- one more is taken in
@@ -317,7 +375,7 @@ module _ {S : Type 0} (state : S → World) (tasks : List (List Task)) (space : 
             (each_snoc (λ k (l : List Replied). asked_in l ≡ calls_of (get_or tasks k [])) told lane.told.items g.asked done.asked);
         did = subst (Each (λ k (t : JoinedCore S). DidTasks state k first t.turns (get_or tasks k []))) (sym knows)
             (each_snoc (λ k (t : JoinedCore S). DidTasks state k first t.turns (get_or tasks k [])) (known_by now) (told_of lane.core) g.did
-            (subst (λ k. DidTasks state k first lane.core.turns (get_or tasks k [])) (sym long) done.did));
+            (subst (λ k. DidTasks state k first lane.core.turns (get_or tasks k [])) (sym long) done.did.did));
       }
 
 -- all were, and the machine agrees with what is known

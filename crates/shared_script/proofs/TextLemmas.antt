@@ -31,8 +31,8 @@ ends_as_yields script old new input unread (Ok x) whole y = (script, whole, y)
 ends_as_yields script old new input unread (Err f) whole y = inr (script, whole, y)
 
 -- nor is one of running it
-pub fails_own : {X : Type 0} (asked : DeclarationView) (f : SharedFault) → Fails asked f → f ≡ Text Of.WriteFailed → X
-fails_own asked f p e = let none : Fails asked (Text Of.WriteFailed) = subst (Fails asked) e p in absurd none
+pub fails_own : {X : Type 0} (script : Scripted) (f : SharedFault) → Fails script f → f ≡ Text Of.WriteFailed → X
+fails_own script f p e = let none : Fails script (Text Of.WriteFailed) = subst (Fails script) e p in absurd none
 
 -- the text of a script that was run
 pub text_given : (script : Scripted) (asked : DeclarationView) (told : List (List Replied)) (w : World) → asked ≡ script.asked → IsRun script told w

@@ -4,7 +4,7 @@ use Rattle.atomic_table.specs.Seated.{TableId}
 use Rattle.machine_model.specs.World.{World}
 use Rattle.trace_words.specs.declared.script.Task.{Task}
 use Rattle.shared.specs.Cores.{new_core}
-use Rattle.shared_script.specs.Tasks.{DidTasks, DoesTasks, IsMade, Stops, asked_in, calls_of}
+use Rattle.shared_script.specs.Tasks.{DoesTasks, HasDone, IsMade, StopsAt, asked_in, calls_of}
 use Rattle.shared_script.specs.declared.fault.SharedFault.{SharedFault}
 use Rattle.shared_script.specs.declared.lane.Lane.{Lane}
 
@@ -23,7 +23,7 @@ module _ {S : Type 0} where
     pub others : lane.core.others ≡ []
     pub asked : asked_in lane.told.items ≡ calls_of (get_or tasks core [])
     pub mine : lane.core.mine ≡ lane.told.items
-    pub did : DidTasks state core first lane.core.turns (get_or tasks core [])
+    pub did : HasDone state core first lane.core.turns (get_or tasks core [])
 
   -- so many cores and core 0
   pub record AreCores (left : ℕ) (Is : ℕ → Lane S → Type 0) (lanes : List (Lane S)) : Type 0 where
@@ -31,8 +31,8 @@ module _ {S : Type 0} where
     pub each : (at : ℕ) (d : Lane S) → at ≤ left → Is (left - at) (get_or lanes at d)
 
   -- all are of this space
-  abbrev pub AreOf : TableId → List (Lane S) → Type 0
-  AreOf space lanes = (at : ℕ) (d : Lane S) → at < length lanes → (get_or lanes at d).core.space ≡ space
+  abbrev pub AreOfSpace : TableId → List (Lane S) → Type 0
+  AreOfSpace space lanes = (at : ℕ) (d : Lane S) → at < length lanes → (get_or lanes at d).core.space ≡ space
 
   -- a core did its tasks, or stopped
   pub record EndsAs (state : S → World) (tasks : List (List Task)) (before after : Lane S) : Type 0 where
@@ -40,7 +40,7 @@ module _ {S : Type 0} where
     pub made : IfNone after.stop
         (IsMade before.core before.told.items (calls_of (get_or tasks before.number [])) after.core after.told.items)
     pub did : IfNone after.stop (DoesTasks state before.core (get_or tasks before.number []) after.core)
-    pub fails : IfSome after.stop (Stops state before.core.first)
+    pub stops : IfSome after.stop (StopsAt state before.core (get_or tasks before.number []))
 
   -- each did so
   pub record EndEach (state : S → World) (tasks : List (List Task)) (before after : List (Lane S)) : Type 0 where

@@ -7,10 +7,10 @@ use Rattle.shared.specs.Histories.{history_of, replied_by}
 use Rattle.shared.specs.declared.history.Replied.{Replied}
 use Rattle.shared.specs.declared.history.Turn.{Turn}
 use Rattle.shared.specs.Turns.{AreInOrder, left_by}
-use Rattle.trace_words.specs.Declarations.{DeclarationView, made_by}
+use Rattle.trace_words.specs.Declarations.{made_by}
 use Rattle.trace_words.specs.declared.fault.TraceFault.TheVariants.{NoMemory, Setup}
 use Rattle.trace_words.specs.Scripts.{Scripted}
-use Rattle.shared_script.specs.Tasks.{DidTasks, IsAtLimit, asked_in, calls_of}
+use Rattle.shared_script.specs.Tasks.{DidTasks, FindsFull, HasDone, asked_in, calls_of}
 use Rattle.shared_script.specs.declared.fault.SharedFault.{SharedFault}
 use Rattle.shared_script.specs.declared.fault.SharedFault.TheVariants.{Text, Full}
 
@@ -29,10 +29,20 @@ pub record IsRun (script : Scripted) (told : List (List Replied)) (w : World) : 
   pub last : left_by first turns ≡ w ∷ []
   pub did : (core : ℕ) → core < script.asked.cores → DidTasks (λ v. v) core first turns (get_or script.tasks core [])
 
--- why a script that declares this machine may not have been run: memory was wanting, for the machine too; or the machine, which began
--- with an empty log, came to a limit by the turns of its cores
-abbrev pub Fails : DeclarationView → SharedFault → Type 0
-Fails asked (Text NoMemory) = Unit {0}
-Fails asked (Text (Setup fault)) = fault ≡ Wrong.NoMemory
-Fails asked Full = (first : World) × (first.made ≡ made_by asked) × (first.calls.log ≡ []) × IsAtLimit (λ v. v) (first ∷ [])
-Fails asked _ = ⊥
+-- In the declared machine, which began with an empty log, this core found it too full for one of its tasks, and each core before it did all
+-- of its own.
+pub record IsLeastFull (script : Scripted) : Type 0 where
+  pub first : World
+  pub made : first.made ≡ made_by script.asked
+  pub new : first.calls.log ≡ []
+  pub core : ℕ
+  pub within : core < script.asked.cores
+  pub stopped : FindsFull (λ w. w) core (first ∷ []) (get_or script.tasks core [])
+  pub below : (k : ℕ) → k < core → (turns : List (Turn World)) × HasDone (λ w. w) k (first ∷ []) turns (get_or script.tasks k [])
+
+-- why a script wasn't run: memory was wanting, for the machine too; or the least core that stopped found the machine at a limit
+abbrev pub Fails : Scripted → SharedFault → Type 0
+Fails script (Text NoMemory) = Unit {0}
+Fails script (Text (Setup fault)) = fault ≡ Wrong.NoMemory
+Fails script Full = IsLeastFull script
+Fails script _ = ⊥

@@ -1,5 +1,5 @@
 -- What a core does of a script on a machine that others share
-use Rattle.std.specs.Prelude.{◌≡◌, ◌≢◌, ℕ, ◌⊎◌, List, [], ◌∷◌, ◌++◌, map}
+use Rattle.std.specs.Prelude.{◌≡◌, ◌≢◌, ℕ, ◌⊎◌, List, [], ◌∷◌, ◌++◌, map, Option}
 use Rattle.vm_base.specs.declared.requests.Request.{Request}
 use Rattle.vm_base.specs.declared.replies.Reply.{Reply}
 use Rattle.trace_words.specs.declared.script.Task.{Task}
@@ -8,13 +8,12 @@ use Rattle.machine_model.specs.World.{World}
 use Rattle.machine_model.specs.declared.event.Outcome.{Outcome}
 use Rattle.machine_model.specs.declared.event.Outcome.TheVariants.{Full}
 use Rattle.shared.specs.Cores.{CoreView}
-use Rattle.shared.specs.Turns.{AreInOrder, left_by}
-use Rattle.shared.specs.Histories.{Adds, IsFull, StepsAside, event_of, history_of, replied}
+use Rattle.shared.specs.Turns.{AreInOrder, Leads, left_by}
+use Rattle.shared.specs.Histories.{Adds, IsFull, IsOver, StepsAside, event_of, history_of, logged, replied}
 use Rattle.trace_words.specs.declared.fault.TraceFault.TheVariants.{NoMemory}
 use Rattle.shared_script.specs.declared.fault.SharedFault.{SharedFault}
 use Rattle.shared_script.specs.declared.fault.SharedFault.TheVariants.{Text}
 use Rattle.shared_script.specs.declared.fault.SharedFault.TheVariants as Stopped
-use Rattle.shared.specs.declared.asides.Aside.{Aside}
 use Rattle.shared.specs.declared.asides.Aside.TheVariants as Does
 use Rattle.shared.specs.declared.history.Turn.{Turn}
 use Rattle.shared.specs.declared.history.Replied.{Replied}
@@ -45,6 +44,14 @@ IsTask x core (Call request) y = (reply : Reply) × Adds core (replied request r
 IsTask x core Flush y = (outcome : Outcome) × (outcome ≢ Full) × StepsAside x (event_of core Does.Flush) outcome y
 IsTask x core Review y = (outcome : Outcome) × (outcome ≢ Full) × StepsAside x (event_of core Does.Review) outcome y
 
+-- The core can't do this task with the machine x: it is at its limit of events; or, for a call, it came to a limit in the core's turn, that of
+-- calls or that of events, since when a reply of this call alone may be in the log.
+abbrev pub IsTooFull : World → ℕ → Task → Type 0
+IsTooFull x core (Call request) = IsOver x
+    ⊎ ((y : World) × Leads (λ w. w) x core y × ((reply : Option Reply) × Adds core (logged request reply) (history_of x) (history_of y)) × IsFull y)
+IsTooFull x core Flush = IsOver x
+IsTooFull x core Review = IsOver x
+
 module _ {S : Type 0} (state : S → World) where
   -- of these turns, those of the core did just these tasks, one a turn, in order
   abbrev pub DidTasks : ℕ → List S → List (Turn S) → List Task → Type 0
@@ -55,20 +62,29 @@ module _ {S : Type 0} (state : S → World) where
       × IsTask (state x) core task (state t.machine) × DidTasks core (t.machine ∷ []) ts rest)
       ⊎ ((t.core ≢ core) × DidTasks core (t.machine ∷ []) ts tasks)
 
+  -- the turns are in order, and those of the core did just these tasks
+  pub record HasDone (core : ℕ) (first : List S) (turns : List (Turn S)) (tasks : List Task) : Type 0 where
+    pub order : AreInOrder state first turns
+    pub did : DidTasks core first turns tasks
+
+  -- the core did the tasks before one, for which the machine was too full
+  pub record FindsFull (core : ℕ) (first : List S) (tasks : List Task) : Type 0 where
+    pub done : List Task
+    pub next : Task
+    pub rest : List Task
+    pub are : tasks ≡ done ++ next ∷ rest
+    pub turns : List (Turn S)
+    pub does : HasDone core first turns done
+    pub machine : S
+    pub left : left_by first turns ≡ machine ∷ []
+    pub full : IsTooFull (state machine) core next
+
   -- the core did these tasks too, after those that it had done
   abbrev pub DoesTasks : CoreView S → List Task → CoreView S → Type 0
-  DoesTasks v tasks w = (done : List Task) → DidTasks v.core v.first v.turns done → DidTasks v.core v.first w.turns (done ++ tasks)
+  DoesTasks v tasks w = (done : List Task) → HasDone v.core v.first v.turns done → HasDone v.core v.first w.turns (done ++ tasks)
 
-  -- by turns in one order the machine came to a limit: that of calls or that of events
-  pub record IsAtLimit (first : List S) : Type 0 where
-    pub turns : List (Turn S)
-    pub machine : S
-    pub order : AreInOrder state first turns
-    pub last : left_by first turns ≡ machine ∷ []
-    pub full : IsFull (state machine)
-
-  -- why a core stopped before its last task: memory was wanting, or the machine is at a limit
-  abbrev pub Stops : List S → SharedFault → Type 0
-  Stops first (Text NoMemory) = Unit {0}
-  Stops first Stopped.Full = IsAtLimit first
-  Stops first _ = ⊥
+  -- why it stopped at one of them: memory was wanting, or the machine was too full for it
+  abbrev pub StopsAt : CoreView S → List Task → SharedFault → Type 0
+  StopsAt v tasks (Text NoMemory) = Unit {0}
+  StopsAt v tasks Stopped.Full = (done : List Task) → HasDone v.core v.first v.turns done → FindsFull v.core v.first (done ++ tasks)
+  StopsAt v tasks _ = ⊥

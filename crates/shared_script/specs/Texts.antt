@@ -68,7 +68,7 @@ pub record IsSharedText (script : Scripted) (text : List ℕ) : Type 0 where
 
 -- Why nothing was written of the script, or not all: it wasn't run, or a write or a flush failed, and a front of the text went out.
 pub data Ceases (script : Scripted) (old new : Option (List ℕ)) (f : SharedFault) : Type 0 where
-  unrun : Fails script.asked f → Keeps old new → Ceases script old new f
+  unrun : Fails script f → Keeps old new → Ceases script old new f
   unwritten : f ≡ Text Of.WriteFailed → (text : List ℕ) → IsSharedText script text → AppendsFront old new text → Ceases script old new f
 
 -- the text of a script that was run was written, or not

@@ -2,7 +2,7 @@
 ghost use Rattle.std.specs.Prelude.{◌≡◌, ◌-◌, ◌<◌, [], IfErr, IfOk, List, None, map};
 ghost use Rattle.trace_words.specs.Declarations.{made_by};
 ghost use Rattle.shared.specs.Cores.{made_of, new_core};
-ghost use Rattle.shared_script.specs.Lanes.{AreCores, AreOf, EndEach, EndsAs, IsDone, IsFresh, last_stop};
+ghost use Rattle.shared_script.specs.Lanes.{AreCores, AreOfSpace, EndEach, EndsAs, IsDone, IsFresh, last_stop};
 ghost use Rattle.shared_script.specs.Runs.{Fails, IsRun};
 
 use crate::fault::SharedFault;
@@ -64,7 +64,7 @@ fn run_side_by_side<S: Whole + Drop + Send, R: Threads + Wait + Sync>(
     script: &Script<Global>,
     lanes: &mut [Lane<S>],
 )
-    requires { AreOf space.now.table.shared.table_id lanes.old }
+    requires { AreOfSpace space.now.table.shared.table_id lanes.old }
     ensures { EndEach S.state script.now.tasks lanes.old lanes.new }
 {
     let count = lanes.len();
@@ -102,7 +102,7 @@ fn gather<S: Whole + Drop>(
     requires done { (first : List S) × (made_of S.state first ≡ made_by script.now.asked)
         × AreCores (script.now.asked.cores - 1) (IsDone S.state script.now.tasks space.table.shared.table_id first) lanes.items }
     ensures ran { IfOk result (λ ran. IsRun script.now (map (λ told. told.items) ran.told.items) (S.state ran.machine)) }
-    ensures fails { IfErr result (Fails script.now.asked) }
+    ensures fails { IfErr result (Fails script.now) }
 {
     let Ok(mut told) = Vec::with_capacity(alloc, lanes.len()) else {
         return Err(SharedFault::Text(TraceFault::NoMemory));
@@ -136,7 +136,7 @@ pub fn run_shared<S: Whole + Drop + Send, R: Threads + Wait + Sync>(
     requires made { (S.state machine).made ≡ made_by script.now.asked }
     requires new { (S.state machine).calls.log ≡ [] }
     ensures ran { IfOk result (λ ran. IsRun script.now (map (λ told. told.items) ran.told.items) (S.state ran.machine)) }
-    ensures fails { IfErr result (Fails script.now.asked) }
+    ensures fails { IfErr result (Fails script.now) }
 {
     let left = machine.core_count() - 1;
     let Ok((space, first)) = SharedMachine::new(alloc, machine) else {

@@ -1,11 +1,13 @@
 //! What a core does of a script, on a machine that others share.
 ghost use Rattle.std.specs.Prelude.{◌≡◌, ◌≢◌, ◌∷◌, [], IfErr, IfNone, IfSome, OnOk};
 ghost use Rattle.shared.specs.Histories.{replied};
-ghost use Rattle.shared.specs.Cores.{HasTurn, MadeAside};
+ghost use Rattle.shared.specs.Cores.{Answers, HasTurn, MadeAside};
+ghost use Rattle.shared.specs.declared.space.Answer.TheVariants as AnswerOf;
+ghost use Rattle.shared_script.specs.declared.fault.SharedFault.TheVariants as Stopped;
 ghost use Rattle.machine_model.specs.declared.event.Outcome.TheVariants.{Full};
 ghost use Rattle.trace_words.specs.declared.script.Task.TheVariants as TaskOf;
 ghost use Rattle.shared_script.specs.Lanes.{EndsAs};
-ghost use Rattle.shared_script.specs.Tasks.{DoesTasks, IsAtLimit, IsMade, Stops, calls_of};
+ghost use Rattle.shared_script.specs.Tasks.{DoesTasks, IsMade, StopsAt, calls_of};
 
 use crate::fault::SharedFault;
 use crate::lane::Lane;
@@ -41,7 +43,7 @@ fn call<S: Whole + Drop, R: Wait>(
     requires here { core.old.space ≡ space.now.table.shared.table_id }
     ensures here { core.new.space ≡ core.old.space }
     ensures replied { IfSome result (λ reply. HasTurn S.state core.old (replied request reply ∷ []) (λ x y. Unit {0}) core.new) }
-    ensures full { IfNone result (IsAtLimit S.state core.old.first) }
+    ensures full { IfNone result (Answers S.state core.old request AnswerOf.Full core.new) }
 {
     let mut tries = 0u64;
     'tries: for _turn in rt.forever() {
@@ -87,7 +89,7 @@ fn step<S: Whole + Drop, R: Wait>(
     requires here { core.old.space ≡ space.now.table.shared.table_id }
     ensures made { OnOk result ((outcome : Outcome) × (outcome ≢ Full) × MadeAside S.state core.old aside outcome core.new) }
     ensures here { core.new.space ≡ core.old.space }
-    ensures fails { IfErr result (Stops S.state core.old.first) }
+    ensures full { IfErr result (λ fault. (fault ≡ Stopped.Full) × MadeAside S.state core.old aside Full core.new) }
 {
     let outcome = pass(rt, space, core, aside);
     if outcome == Outcome::Full {
@@ -97,7 +99,6 @@ fn step<S: Whole + Drop, R: Wait>(
 }
 
 // Makes the call, and keeps it with the reply that it got. There is room for it.
-#[tactic(auto, using(crate::proofs::TaskLemmas::one_did))]
 fn make<S: Whole + Drop, R: Wait>(
     rt: &R,
     space: &SharedMachine<S>,
@@ -109,7 +110,7 @@ fn make<S: Whole + Drop, R: Wait>(
     ensures here { core.new.space ≡ core.old.space }
     ensures made { OnOk result (IsMade core.old told.old.items (request ∷ []) core.new told.new.items) }
     ensures did { OnOk result (DoesTasks S.state core.old (TaskOf.Call request ∷ []) core.new) }
-    ensures fails { IfErr result (Stops S.state core.old.first) }
+    ensures stops { IfErr result (StopsAt S.state core.old (TaskOf.Call request ∷ [])) }
 {
     if let Err(_) = told.reserve(1) {
         return Err(SharedFault::Text(TraceFault::NoMemory));
@@ -122,7 +123,7 @@ fn make<S: Whole + Drop, R: Wait>(
 }
 
 // Does one task.
-#[tactic(auto, using(crate::proofs::TaskLemmas::flush_did, crate::proofs::TaskLemmas::review_did))]
+#[tactic(auto, using(crate::proofs::TaskLemmas::flush_did, crate::proofs::TaskLemmas::review_did, crate::proofs::TaskLemmas::fault_stops))]
 fn run_task<S: Whole + Drop, R: Wait>(
     rt: &R,
     space: &SharedMachine<S>,
@@ -134,7 +135,7 @@ fn run_task<S: Whole + Drop, R: Wait>(
     ensures here { core.new.space ≡ core.old.space }
     ensures made { OnOk result (IsMade core.old told.old.items (calls_of (task.now ∷ [])) core.new told.new.items) }
     ensures did { OnOk result (DoesTasks S.state core.old (task.now ∷ []) core.new) }
-    ensures fails { IfErr result (Stops S.state core.old.first) }
+    ensures stops { IfErr result (StopsAt S.state core.old (task.now ∷ [])) }
 {
     match task {
         Task::Call(request) => make(rt, space, core, told, *request),
@@ -161,7 +162,7 @@ fn run_tasks<S: Whole + Drop, R: Wait>(
     ensures here { core.new.space ≡ core.old.space }
     ensures made { OnOk result (IsMade core.old told.old.items (calls_of tasks.now) core.new told.new.items) }
     ensures did { OnOk result (DoesTasks S.state core.old tasks.now core.new) }
-    ensures fails { IfErr result (Stops S.state core.old.first) }
+    ensures stops { IfErr result (StopsAt S.state core.old tasks.now) }
 {
     'tasks: for at in 0..tasks.len() {
         run_task(rt, space, core, told, &tasks[at])?;

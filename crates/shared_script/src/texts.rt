@@ -41,7 +41,7 @@ pub fn run_script<T: Threads + Wait + Sync>(
 ) -> Result<RunMachine<Tree>, SharedFault>
     requires { asked_fault script.now.asked ≡ None }
     ensures ran { IfOk result (λ ran. IsRun script.now (map (λ told. told.items) ran.told.items) (state ran.machine.machine)) }
-    ensures fails { IfErr result (Fails script.now.asked) }
+    ensures fails { IfErr result (Fails script.now) }
 {
     let Some(machine) = machine_of(alloc, script) else {
         return Err(SharedFault::Text(TraceFault::Setup(SetupFault::NoMemory)));

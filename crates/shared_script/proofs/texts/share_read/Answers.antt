@@ -8,7 +8,7 @@ pub returns-in-Err-clause-ends : goal.returns-in-Err-clause-ends
 returns-in-Err-clause-ends g c = unrun c.in-Err.ensures.fails (keeps_same _)
 
 pub returns-in-Err-clause-write : goal.returns-in-Err-clause-write
-returns-in-Err-clause-write g c = λ e. fails_own c.args.script.now.asked _ c.in-Err.ensures.fails (cc)
+returns-in-Err-clause-write g c = λ e. fails_own c.args.script.now _ c.in-Err.ensures.fails (cc)
 
 pub returns-clause-ends : goal.returns-clause-ends
 returns-clause-ends g c =
