@@ -39,7 +39,7 @@ def words():
         flags = re.findall(r"(--[a-z-]+)((?: [A-Z]+)*)", rest)
         found[word] = [(flag, values.split()) for flag, values in flags]
         if word != "help":
-            found[word].append(("--color", ["WHEN"]))
+            found[word] += [("--color", ["WHEN"]), ("--output", ["FILE"])]
     return found
 
 
@@ -70,6 +70,8 @@ def of_flag(word, flag):
         return SAID.get(f"{word} {flag}") or SAID[flag]
     if flag == "--color":
         return "colours: auto, always or never"
+    if flag == "--output":
+        return "writes to FILE"
     options = text(SAME.get(word, word.upper())).split("\nOptions:\n")[1].split("\n\n")[0]
     own = re.search(rf"^( +){flag}(?: [A-Z]+)* +(\S.*(?:\n\1 {{6,}}\S.*)*)", options, re.M)
     about = re.split(r"[.:;] ", re.sub(r"\s+", " ", own[2]) + " ")[0].strip().rstrip(".") if own else f"radixvm help {word} says what it does"

@@ -1,6 +1,6 @@
 -- How a task ends.
 use Rattle.std.proofs.Common.{◌≡◌, ◌≢◌, ◌⊎◌, ◌∙◌, ℕ, Bool, true, false, List, [], Option, None, Some, IfSome, IsSome, arith, inl, inr, refl, subst, sym, ap}
-use Rattle.command_line.specs.Done.{IsDone, IsLost, IsSilent, Lists}
+use Rattle.command_line.specs.Done.{EndsIn, IsDone, IsLost, IsSilent, Lists, Saves}
 use Rattle.either.specs.Either.{either}
 use Rattle.either.specs.declared.Either.{Either}
 use Rattle.trace_io.specs.Io.{ReadFrom, WrittenTo}
@@ -92,3 +92,13 @@ is_each work = false
 -- other work doesn't
 pub other_work : {work : Work} {X : Type 0} → is_each work ≡ false → work ≡ ImportEach → X
 other_work other is = let bad : true ≡ false = sym (ap is_each is) ∙ other in absurd cc
+
+-- what was done has its output there, where no file is named for it
+pub ends_here : {Done : WrittenTo → ℕ → Type 0} {Saved : List ℕ → List ℕ → Type 0} {out : WrittenTo} {n : ℕ}
+    (o : Option (Bor (List ℕ))) → o ≡ None → Done out n → EndsIn Done Saved out n o
+ends_here {Done} {Saved} {out} {n} o e done = subst (λ a. EndsIn Done Saved out n a) (sym e) done
+
+-- or in the file that is named for it
+pub ends_there : {Done : WrittenTo → ℕ → Type 0} {Saved : List ℕ → List ℕ → Type 0} {out : WrittenTo} {n : ℕ}
+    (o : Option (Bor (List ℕ))) (name : Bor (List ℕ)) → o ≡ Some name → IsSilent out → Saves Done (Saved name.now) n → EndsIn Done Saved out n o
+ends_there {Done} {Saved} {out} {n} o name e silent saved = subst (λ a. EndsIn Done Saved out n a) (sym e) (silent, saved)

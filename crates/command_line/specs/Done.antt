@@ -64,8 +64,8 @@ abbrev pub Lists : {O : Type 0} → (O → Option (List ℕ)) → (List ℕ → 
 Lists {O} rest_of Opens name coming = ((name ≡ None) × (coming ≡ Some []))
     ⊎ ((path : List ℕ) × (file : O) × (name ≡ Some path) × Opens path file × (coming ≡ rest_of file))
 
--- A task was done: what was read and written is as `Does` says. Where the status is 0, what is saved in files is there, as `Saved` says: an
--- order, and the trace of each process.
+-- A task was done: what was read and written is as `Does` says. Where the status is 0, what is saved in files is there,
+-- as `Saved` says: an order, and the trace of each process.
 pub record Did (Does : ReadFrom → ReadFrom → WrittenTo → ℕ → Type 0) (Saved : List ℕ → List ℕ → Type 0)
     (task : Command) (list text : ReadFrom) (out : WrittenTo) (n : ℕ) : Type 0 where
   pub status : ℕ
@@ -90,23 +90,41 @@ pub record IsDone (Does : ReadFrom → ReadFrom → WrittenTo → ℕ → Type 0
   pub read : IsNew Coming text.before
   pub did : Did Does Saved task list text out n
 
--- A file that is named couldn't be read, or it isn't told of all lines of several files where they belong, and nothing was done.
+-- A file that is named couldn't be read, or it isn't told of all lines of several files where they belong, and nothing
+-- was done.
 abbrev pub IsLost : Command → List (Bor (List ℕ)) → WrittenTo → ℕ → Type 0
 IsLost task names out n = IsSilent out
     × (((n ≡ 3) × ((NamesStandard (named task.file) → ⊥) ⊎ (IsSome task.maps ⊎ (1 ≤ length names)))) ⊎ ((n ≡ 2) × AreUntold (map thread_of names)))
 
--- what may come of a name that the words have: which bytes, of a list by its name, and of a text by its name and those of several files
+-- It was done with output of its own, which begins empty. Unless the text or the system failed, all of it is saved.
+pub record Saves (Done : WrittenTo → ℕ → Type 0) (Saved : List ℕ → Type 0) (n : ℕ) : Type 0 where
+  pub own : WrittenTo
+  pub empty : own.before ≡ Some []
+  pub status : ℕ
+  pub done : Done own status
+  pub saved : n ≢ 2 → n ≢ 3 → (text : List ℕ) × (own.after ≡ Some text) × Saved text
+  pub status_is : (n ≡ status) ⊎ (n ≡ 3)
+
+-- what may come of a name that the words have: which bytes, of a list by its name, and of a text by its name and those
+-- of several files
 abbrev pub ListComes : Type 1
 ListComes = Option (List ℕ) → Option (List ℕ) → Type 0
 
 abbrev pub TextComes : Type 1
 TextComes = Option (List ℕ) → List (Bor (List ℕ)) → Option (List ℕ) → Type 0
 
--- The words were parsed, once, and to a task, which was done or named a file that couldn't be read; or to what is printed in its place.
+-- it ends with its output there, or in the file that is named for it
+abbrev pub EndsIn : (WrittenTo → ℕ → Type 0) → (List ℕ → List ℕ → Type 0) → WrittenTo → ℕ → Option (Bor (List ℕ)) → Type 0
+EndsIn Done Saved out n None = Done out n
+EndsIn Done Saved out n (Some name) = IsSilent out × Saves Done (Saved name.now) n
+
+-- The words were parsed, once, and to a task, which was done or named a file that couldn't be read; or to what is
+-- printed in its place.
 abbrev pub Ends : (Work → ReadFrom → ReadFrom → WrittenTo → ℕ → Type 0) → ListComes → TextComes
     → (List ℕ → List ℕ → Type 0) → List (Bor (List ℕ)) → WrittenTo → ℕ → Result Command Usage → Type 0
 Ends Does Listed Coming Saved names out n (Ok task) =
-    IsDone (Does task.work) (Listed (named task.maps)) (Coming (named task.file) names) Saved task out n ⊎ IsLost task names out n
+    EndsIn (λ o k. IsDone (Does task.work) (Listed (named task.maps)) (Coming (named task.file) names) Saved task o k ⊎ IsLost task names o k)
+    Saved out n task.output
 Ends Does Listed Coming Saved names out n (Err usage) = TellsUsage usage out n
 
 abbrev pub Answers : (Work → ReadFrom → ReadFrom → WrittenTo → ℕ → Type 0) → ListComes → TextComes

@@ -1,4 +1,5 @@
-//! What the words ask for, as far as something is said about it: how the text is read, and how much of it is kept for that.
+//! What the words ask for, as far as something is said about it: how the text is read, and how much of it is kept for
+//! that.
 ghost use Rattle.std.specs.Prelude.{◌≡◌};
 
 use crate::telling::tell_of_terminal;
@@ -16,8 +17,8 @@ use word_parts::keeping::Keeps;
 // What the words ask for, as far as something is said about it.
 #[derive(Clone, Copy)]
 pub(crate) struct Asks<'a> {
-    // The names of the text's file, of the list of mappings or an order that is read, of an order that is written, and of the folder
-    // that traces are written to, where there are any.
+    // The names of the text's file, of the list of mappings or an order that is read, of an order that is written, and
+    // of the folder that traces are written to, where there are any.
     pub file: Option<&'a str>,
     pub maps: Option<&'a str>,
     pub order: Option<&'a str>,
@@ -108,7 +109,8 @@ fn has_clauses(work: Work) -> bool {
     )
 }
 
-// How much of the text is kept: all of one that is read whole before it is acted on, since its lines are told of once all is read.
+// How much of the text is kept: all of one that is read whole before it is acted on, since its lines are told of once
+// all is read.
 fn keeps_of(work: Work, explains: bool) -> Keeps {
     match work {
         Work::Audit(_) | Work::AuditAll(_) => Keeps::All,

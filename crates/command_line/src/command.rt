@@ -1,6 +1,6 @@
 //! The words of the command line, and what each does.
 ghost use Rattle.std.specs.Prelude.{◌≡◌, ◌≢◌, ◌⊎◌, ◌≤◌, IsSome, map};
-ghost use Rattle.command_line.specs.Done.{Answers, Comes, Did, IsDone, IsLost, IsSilent, Lists, named};
+ghost use Rattle.command_line.specs.Done.{Answers, Comes, Did, IsDone, IsLost, IsSilent, Lists, Saves, named};
 ghost use Rattle.command_line.specs.Words.{DoesWork};
 ghost use Rattle.import_log.specs.Each.{parted, parts_of};
 ghost use Rattle.import_steps.specs.Taking.{nothing_taken};
@@ -12,7 +12,7 @@ ghost use Rattle.trace_io.specs.Source.{Reads};
 use crate::asks::{Asks, asks_of, greet, name_told};
 use crate::errors::tell_end;
 use crate::output::{Output, status_seen};
-use crate::saving::{gathered, refuse_file, save_order, save_traces};
+use crate::saving::{gathered, refuse_file, save_order, save_output, save_traces};
 use crate::telling::tell;
 pub use crate::telling::{WordsFault, refuse_words};
 use crate::terminals::Terminals;
@@ -35,6 +35,7 @@ use word_grammar::{Command, Work, parse};
 use word_import::importing::{import, import_accesses, import_calls, import_each};
 use word_parts::asked::WitnessPicture;
 use word_parts::ended::{Ended, Trouble};
+use word_parts::held::Held;
 use word_parts::input::{Files, input, list};
 use word_parts::keeping::{Keeping, Keeps};
 use word_pictures::picturing::picture;
@@ -120,7 +121,8 @@ fn draw_witness<S: Source, W: Sink, E: Write>(
     }
 }
 
-// Does what a task asks for, and answers its status, and what more can be told of. Long work may show how far it has come.
+// Does what a task asks for, and answers its status, and what more can be told of. Long work may show how far it has
+// come.
 fn act<T: Threads + Wait + Sync, R: Runner<Global>, L: Source, S: Source, W: Sink, E: Write>(
     rt: &T,
     runner: &R,
@@ -302,7 +304,8 @@ fn perform_listed<
         ⟦<RadixMap<Global> as SlotMap>⟧.parts ⟦<RadixMap<Global> as SlotMap>⟧.can_fold
         ⟦<RadixMap<Global> as SlotMap>⟧.folds task.entry.work)
         (Lists F.Open.remaining (λ path file. F.opens host.entry.0.now path file) (named task.entry.maps))
-        (λ coming. coming ≡ I.remaining input) (F.saved host.entry.0.now) task.entry (written_to W.Sink out.old out.new) result
+        (λ coming. coming ≡ I.remaining input) (F.saved host.entry.0.now) task.entry
+        (written_to W.Sink out.old out.new) result
         ⊎ ((result ≡ 3) × IsSilent (written_to W.Sink out.old out.new) × IsSome task.entry.maps) }
 {
     match list(host.0, task.maps) {
@@ -340,7 +343,8 @@ fn perform_named<
         ⟦<RadixMap<Global> as SlotMap>⟧.folds task.entry.work)
         (Lists F.Open.remaining (λ path file. F.opens host.entry.0.now path file) (named task.entry.maps))
         (Comes I.remaining F.Open.remaining standard (λ path file. F.opens host.entry.0.now path file)
-        (named task.entry.file) names.now) (F.saved host.entry.0.now) task.entry (written_to W.Sink out.old out.new) result
+        (named task.entry.file) names.now) (F.saved host.entry.0.now) task.entry
+        (written_to W.Sink out.old out.new) result
         ⊎ IsLost task.entry names.now (written_to W.Sink out.old out.new) result }
 {
     match input(host.0, standard, task.file) {
@@ -372,7 +376,8 @@ fn perform<
         ⟦<RadixMap<Global> as SlotMap>⟧.folds task.entry.work)
         (Lists F.Open.remaining (λ path file. F.opens host.entry.0.now path file) (named task.entry.maps))
         (Comes I.remaining F.Open.remaining standard (λ path file. F.opens host.entry.0.now path file)
-        (named task.entry.file) names.now) (F.saved host.entry.0.now) task.entry (written_to W.Sink out.old out.new) result
+        (named task.entry.file) names.now) (F.saved host.entry.0.now) task.entry
+        (written_to W.Sink out.old out.new) result
         ⊎ IsLost task.entry names.now (written_to W.Sink out.old out.new) result }
 {
     let (terminals, coloured) = at;
@@ -401,12 +406,38 @@ fn perform<
     }
 }
 
-/// Does what the words say, the program's name first, and answers the status: 0, yes; 1, no, as of notes that are refused or a reply that is
-/// illegal; 2 for an error in the words or in the text; 3 where the system failed: reading, writing, memory or a thread; 4, undecided; and
-/// 141 where the reader of the output has gone. An error is printed on `errors`, as `radixvm: NAME:LINE:COLUMN: ` and what it is, and
-/// below that the line and what was expected. The text is what the named file gives, or `standard` where none is
-/// named, or `-`, and of several files that an import names their lines in the order of their times. The host is where files are
-/// opened, what has threads, and how scripts are run. At terminals colours are shown, where these are asked for.
+// Does a task whose output goes to the file with this name, and answers the status.
+fn perform_saving<I: Read + Drop, F: Files, T: Threads + Wait + Sync, R: Runner<Global>, E: Write>(
+    alloc: Global,
+    task: Command<'_>,
+    name: &str,
+    names: &[&str],
+    host: (&F, &T, &R),
+    standard: I,
+    errors: &mut E,
+    at: (Terminals, bool),
+) -> u8
+    ensures does { Saves (λ out n. IsDone (DoesWork Global
+        ⟦<RadixMap<Global> as SlotMap>⟧.parts ⟦<RadixMap<Global> as SlotMap>⟧.can_fold
+        ⟦<RadixMap<Global> as SlotMap>⟧.folds task.entry.work)
+        (Lists F.Open.remaining (λ path file. F.opens host.entry.0.now path file) (named task.entry.maps))
+        (Comes I.remaining F.Open.remaining standard (λ path file. F.opens host.entry.0.now path file)
+        (named task.entry.file) names.now) (F.saved host.entry.0.now) task.entry out n
+        ⊎ IsLost task.entry names.now out n) (λ text. F.saved host.entry.0.now name.now text) result }
+{
+    let (files, _, _) = host;
+    let mut held = Held::new(Vec::new(alloc));
+    let status = perform(alloc, task, names, host, standard, &mut held, errors, at);
+    save_output(files, name, held.bytes.as_slice(), status, errors)
+}
+
+/// Does what the words say, the program's name first, and answers the status: 0, yes; 1, no, as of notes that are
+/// refused or a reply that is illegal; 2 for an error in the words or in the text; 3 where the system failed: reading,
+/// writing, memory or a thread; 4, undecided; and 141 where the reader of the output has gone. An error is printed on
+/// `errors`, as `radixvm: NAME:LINE:COLUMN: ` and what it is, and below that the line and what was expected. The text
+/// is what the named file gives, or `standard` where none is named, or `-`, and of several files that an import names
+/// their lines in the order of their times. The host is where files are opened, what has threads, and how scripts are
+/// run. At terminals colours are shown, where these are asked for.
 pub fn command<
     A: Allocator,
     I: Read + Drop,
@@ -434,16 +465,28 @@ pub fn command<
     let (terminals, coloured) = at;
     let mut names = Vec::new(alloc);
     match parse(alloc, words, coloured && terminals.output, &mut names) {
-        Ok(task) => perform(
-            alloc,
-            task,
-            names.as_slice(),
-            host,
-            standard,
-            out,
-            errors,
-            at,
-        ),
+        Ok(task) => match task.output {
+            None => perform(
+                alloc,
+                task,
+                names.as_slice(),
+                host,
+                standard,
+                out,
+                errors,
+                at,
+            ),
+            Some(name) => perform_saving(
+                alloc,
+                task,
+                name,
+                names.as_slice(),
+                host,
+                standard,
+                errors,
+                at,
+            ),
+        },
         Err(told) => {
             drop(standard);
             tell(alloc, &told, out, errors)

@@ -4,8 +4,8 @@
 //! - `asks`, `errors`: what is said of an error in a text; `telling`: arguments that can't be acted on; `output`,
 //!   `terminals`: where it is written.
 //!
-//! It exists for `command::command`, clause `does`: status, output and files are what the arguments ask for. The program
-//! itself is `radixvm`.
+//! It exists for `command::command`, clause `does`: status, output and files are what the arguments ask for. The
+//! program itself is `radixvm`.
 #![tactic(auto)]
 
 mod asks;

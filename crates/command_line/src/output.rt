@@ -5,6 +5,7 @@ use std::alloc::Allocator;
 use std::io;
 use std::io::{ErrorKind, Write};
 use trace_io::sink::{Sink, TrackedSink};
+use word_parts::held::Held;
 
 /// Where output goes.
 pub trait Output: Sink {
@@ -72,8 +73,17 @@ impl<W: Write + Drop, A: Allocator> Output for TrackedSink<Noted<W>, A> {
     }
 }
 
-/// The status that is seen of a program which ends with this one: 141 where the reader of the output has gone, as a shell tells of SIGPIPE,
-/// of which such a program says nothing.
+impl Output for Held {
+    fn cause(&self) -> Option<ErrorKind> {
+        if self.failed {
+            return Some(ErrorKind::OutOfMemory);
+        }
+        None
+    }
+}
+
+/// The status that is seen of a program which ends with this one: 141 where the reader of the output has gone, as a
+/// shell tells of SIGPIPE, of which such a program says nothing.
 pub(crate) fn status_seen<W: Output>(status: u8, out: &W) -> u8
     ensures seen { (result ≡ status) ⊎ ((result ≡ 141) × (status ≡ 3) × (W.failed out.now ≡ true)) }
     ensures failed { status ≡ 3 → (result ≡ 3) ⊎ (result ≡ 141) }

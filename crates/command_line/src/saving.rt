@@ -30,8 +30,8 @@ fn refuse_save<E: Write>(name: &str, cause: io::ErrorKind, errors: &mut E) -> u8
     3
 }
 
-/// Writes the order that was found to the file that is named for it, where the task came to 0, and answers the status: that of the task, or
-/// 3 where this fails.
+/// Writes the order that was found to the file that is named for it, where the task came to 0, and answers the status:
+/// that of the task, or 3 where this fails.
 pub(crate) fn save_order<F: Files, E: Write>(
     files: &F,
     asks: Asks<'_>,
@@ -39,7 +39,8 @@ pub(crate) fn save_order<F: Files, E: Write>(
     status: u8,
     errors: &mut E,
 ) -> u8
-    ensures saved { result ≡ 0 → IfSome asks.entry.order (λ name. (order.now ≢ []) × F.saved files.now name.now order.now) }
+    ensures saved { result ≡ 0
+        → IfSome asks.entry.order (λ name. (order.now ≢ []) × F.saved files.now name.now order.now) }
     ensures status { (result ≡ status) ⊎ ((result ≡ 3) × (status ≡ 0) × IsSome asks.entry.order) }
 {
     let Some(name) = asks.order else {
@@ -57,8 +58,29 @@ pub(crate) fn save_order<F: Files, E: Write>(
     }
 }
 
-/// Writes the traces of processes to the folder that is named for them, where there is one and the task came to 0, and answers the status:
-/// that of the task, or 3 where this fails.
+/// Writes the output to the file that is named for it, where the task was done, and answers the status: that of the
+/// task, or 3 where this fails.
+pub(crate) fn save_output<F: Files, E: Write>(
+    files: &F,
+    name: &str,
+    text: &[u8],
+    status: u8,
+    errors: &mut E,
+) -> u8
+    ensures saved { result ≢ 2 → result ≢ 3 → F.saved files.now name.now text.now }
+    ensures status { (result ≡ status) ⊎ (result ≡ 3) }
+{
+    if status == 2 || status == 3 {
+        return status;
+    }
+    match files.save(name, text) {
+        Ok(()) => status,
+        Err(error) => refuse_save(name, error.kind(), errors),
+    }
+}
+
+/// Writes the traces of processes to the folder that is named for them, where there is one and the task came to 0, and
+/// answers the status: that of the task, or 3 where this fails.
 pub(crate) fn save_traces<F: Files, E: Write>(
     files: &F,
     alloc: Global,
@@ -95,7 +117,8 @@ fn refuse_files<E: Write>(why: Ungathered<'_>, errors: &mut E) -> u8
     }
 }
 
-// Tells whether these files are read as one log: several are, and so is one that the words name whose name says of which thread it is.
+// Tells whether these files are read as one log: several are, and so is one that the words name whose name says of
+// which thread it is.
 fn are_gathered(work: Work, names: &[&str]) -> bool
     ensures { result ≡ true → 1 ≤ length names.now }
 {
@@ -145,8 +168,9 @@ fn in_order<E: Write>(joined: JoinedLog, names: &[&str], errors: &mut E) -> Resu
     Ok(joined.text)
 }
 
-// The log that the files of an import come to, of which there are several, or one whose name says of which thread it is; nothing for others.
-// An `Err` is the status: 2 where it isn't told of all lines where they belong, and 3 where a file can't be read.
+// The log that the files of an import come to, of which there are several, or one whose name says of which thread it
+// is; nothing for others. An `Err` is the status: 2 where it isn't told of all lines where they belong, and 3 where a
+// file can't be read.
 pub(crate) fn gathered<F: Files, E: Write>(
     files: &F,
     alloc: Global,
@@ -155,7 +179,8 @@ pub(crate) fn gathered<F: Files, E: Write>(
     errors: &mut E,
 ) -> Result<Option<Vec<u8>>, u8>
     ensures ok { IfOk result (λ log. IfSome log (λ text. Gathers (map thread_of names.now) text.items)) }
-    ensures err { IfErr result (λ status. ((status ≡ 3) × (1 ≤ length names.now)) ⊎ ((status ≡ 2) × AreUntold (map thread_of names.now))) }
+    ensures err { IfErr result (λ status. ((status ≡ 3) × (1 ≤ length names.now))
+        ⊎ ((status ≡ 2) × AreUntold (map thread_of names.now))) }
 {
     if !are_gathered(work, names) {
         return Ok(None);

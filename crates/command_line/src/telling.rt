@@ -29,7 +29,8 @@ fn show<W: Output, E: Write>(text: &str, out: &mut W, errors: &mut E) -> u8
     }
 }
 
-/// Tells that standard output couldn't be written, and why, where that is known. Nothing is said where its reader has gone.
+/// Tells that standard output couldn't be written, and why, where that is known. Nothing is said where its reader has
+/// gone.
 pub(crate) fn tell_unwritten<W: Output, E: Write>(out: &W, errors: &mut E) {
     match out.cause() {
         Some(io::ErrorKind::BrokenPipe) => {}

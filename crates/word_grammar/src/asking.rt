@@ -98,6 +98,8 @@ pub struct Command<'a> {
     pub order: Option<&'a str>,
     /// The folder that an import writes traces to.
     pub folder: Option<&'a str>,
+    /// The file that the output goes to, where it isn't standard output.
+    pub output: Option<&'a str>,
     /// Whether nothing more is said about an error than its place and what it is.
     pub is_brief: bool,
     /// Whether colours are shown, where the words say that.
@@ -141,6 +143,14 @@ fn colours_of<'a>(words: &ArgMatches<'a>) -> Option<bool> {
     }
 }
 
+// The file that the output goes to, where the words name one: `-` is standard output.
+fn output_of<'a>(words: &ArgMatches<'a>) -> Option<&'a str> {
+    match words.get_str("output") {
+        Some("-") => None,
+        named => named,
+    }
+}
+
 // This work with the text that the words name.
 fn working<'a>(work: Work, words: &ArgMatches<'a>) -> Command<'a>
     ensures { result.work ≡ work }
@@ -151,6 +161,7 @@ fn working<'a>(work: Work, words: &ArgMatches<'a>) -> Command<'a>
         maps: None,
         order: None,
         folder: None,
+        output: output_of(words),
         is_brief: words.get_flag("brief"),
         colours: colours_of(words),
     }
@@ -333,9 +344,9 @@ fn importing_each<'a>(words: &ArgMatches<'a>) -> Command<'a>
     }
 }
 
-// What the words after `run` ask for, in colours or without where they don't say that.
+// What the words after `run` ask for, in colours or without where they don't say that. A file gets none.
 fn running_asked<'a>(words: &ArgMatches<'a>, coloured: bool) -> Command<'a> {
-    let coloured = colours_of(words).unwrap_or(coloured);
+    let coloured = colours_of(words).unwrap_or(coloured && output_of(words).is_none());
     let logs = words.get_flag("log");
     if words.get_flag("state") {
         let shows = Echoed { coloured, logs };

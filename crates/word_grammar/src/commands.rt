@@ -29,6 +29,7 @@ const CONDITIONS: &[&str] = &["stale", "waits", "unused"];
 #[derive(Clone, Copy)]
 struct Choice {
     name: &'static str,
+    letter: Option<char>,
     value: Value,
     rivals: &'static [&'static str],
     needed: Option<&'static str>,
@@ -39,10 +40,17 @@ impl Choice {
     fn new(name: &'static str, value: Value) -> Choice {
         Choice {
             name,
+            letter: None,
             value,
             rivals: &[],
             needed: None,
         }
+    }
+
+    // The same, which one letter names, too.
+    fn lettered(self, letter: char) -> Choice {
+        let letter = Some(letter);
+        Choice { letter, ..self }
     }
 
     // The same where none of these stands.
@@ -66,6 +74,10 @@ impl Choice {
             Value::Condition => arg.value_parser(CONDITIONS),
             Value::Name => arg,
             Value::Colour => arg.value_parser(COLOURS),
+        };
+        let arg = match self.letter {
+            Some(letter) => arg.short(letter),
+            None => arg,
         };
         let mut arg = match self.needed {
             Some(needed) => arg.requires_arg(needed)?,
@@ -120,8 +132,13 @@ fn reading_from<'a>(
     let command = Command::new(alloc, name)
         .override_help(page(topic))
         .override_usage(usage);
-    let colour = Choice::new("color", Value::Colour);
-    let command = with_choices(alloc, command, &[flag("brief"), flag("explain"), colour])?;
+    let of_all = [
+        flag("brief"),
+        flag("explain"),
+        Choice::new("color", Value::Colour),
+        Choice::new("output", Value::Name).lettered('o'),
+    ];
+    let command = with_choices(alloc, command, &of_all)?;
     with_choices(alloc, command.arg(file)?, choices)
 }
 

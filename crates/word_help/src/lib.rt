@@ -100,6 +100,9 @@ Topics:
 Options of all commands:
   --color WHEN   colours: auto (on a terminal, unless NO_COLOR is set), always
                  or never
+  -o, --output FILE
+                 writes to FILE; it is replaced as a whole, and stays as it was
+                 where the status is 2 or 3. - is standard output
   -h             writes only usage and options
   --help         explains the command
   -V, --version  writes the version

@@ -12,7 +12,6 @@ ghost use Rattle.trace_words.specs.declared.fault.TraceFault.TheVariants as Of;
 ghost use Rattle.trace_io.specs.Lines.{lines_of};
 ghost use Rattle.trace_io.specs.Sink.{AppendsFront};
 
-use crate::held::Held;
 use crate::picturing::record;
 use machine_model::CallLimit;
 use state_changes::{StateRecorder, changes_of};
@@ -22,6 +21,7 @@ use trace_io::sink::{Sink, write_all};
 use trace_io::source::Counted;
 use trace_words::fault::TraceFault;
 use word_parts::asked::Echoed;
+use word_parts::held::Held;
 
 // What the lines show, with these texts below them, where there is memory for it.
 fn echoed(alloc: Global, trace: &[u8], shows: Echoed, texts: &[Vec<u8>]) -> Option<Vec<u8>>

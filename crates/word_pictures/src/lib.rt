@@ -1,15 +1,13 @@
 //! The words that show a trace: picture, state, page, and more of run and maps.
 //!
 //! - `picturing`, `lining`: `picture`; `stating`, `reading`: `state`; `stepping`: `page`; `changing`: `run --state`.
-//! - `listing`, `lists`: mappings with their files' names; `traced`: a trace that notes tell; `held`: a writer that
-//!   holds all.
+//! - `listing`, `lists`: mappings with their files' names; `traced`: a trace that notes tell.
 //!
 //! It exists for `stepping::draw_page` and `picturing::picture`, clause `ends`. `command_line` calls it.
 #![tactic(auto)]
 
 mod between;
 mod changing;
-mod held;
 mod histories;
 mod knowing;
 mod lining;

@@ -7,7 +7,6 @@ ghost use Rattle.word_pictures.specs.Picture.{ShowsText, TextEnds};
 ghost use Rattle.trace_words.specs.declared.fault.TraceFault.TheVariants as Of;
 ghost use Rattle.trace_io.specs.Sink.{AppendsFront};
 
-use crate::held::Held;
 use crate::lists::put_named;
 use crate::picturing::in_memory;
 use machine_model::CallLimit;
@@ -17,6 +16,7 @@ use trace_io::sink::{Sink, write_all};
 use trace_io::source::Counted;
 use trace_words::fault::TraceFault;
 use trace_words::show::Show;
+use word_parts::held::Held;
 
 // The mappings at the trace's end, as `maps` lists them.
 fn list(alloc: Global, trace: &[u8], limit: CallLimit) -> Result<Vec<u8>, TraceFault>

@@ -12,7 +12,6 @@ ghost use Rattle.trace_words.specs.declared.fault.TraceFault.TheVariants as Of;
 ghost use Rattle.trace_io.specs.Lines.{lines_of};
 ghost use Rattle.trace_io.specs.Sink.{AppendsFront};
 
-use crate::held::Held;
 use crate::picturing::in_memory;
 use state_seen::mirror::Mirror;
 use state_text::Form;
@@ -24,6 +23,7 @@ use trace::standing::replay_standing;
 use trace_io::sink::{Sink, write_all};
 use trace_io::source::Counted;
 use trace_words::fault::TraceFault;
+use word_parts::held::Held;
 
 /// What is seen at the end of a trace.
 #[derive(Drop)]

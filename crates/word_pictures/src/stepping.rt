@@ -7,7 +7,6 @@ ghost use Rattle.machine_model.specs.declared.setup.CallLimit.TheVariants.{Usual
 ghost use Rattle.trace_words.specs.declared.fault.TraceFault.TheVariants as Of;
 ghost use Rattle.trace_io.specs.Sink.{AppendsFront};
 
-use crate::held::Held;
 use crate::picturing::record_shown;
 use machine_model::CallLimit;
 use state_changes::StateRecorder;
@@ -17,6 +16,7 @@ use std::alloc::{AllocError, Global};
 use trace_io::sink::{Sink, write_all};
 use trace_words::fault::TraceFault;
 use trace_words::show::Show;
+use word_parts::held::Held;
 
 // The page of what was recorded and shown.
 #[tactic(auto, unfolding(crate::specs::Stepping::page_written))]

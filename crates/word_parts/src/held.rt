@@ -3,9 +3,11 @@ use trace_io::sink::{Sink, WriteFailed};
 
 /// What was written, in memory. A write fails where there is none.
 #[derive(Drop)]
-pub(crate) struct Held {
-    pub(crate) bytes: Vec<u8>,
-    failed: bool,
+pub struct Held {
+    /// What was written.
+    pub bytes: Vec<u8>,
+    /// Whether memory was refused to a write.
+    pub failed: bool,
     is_flushed: bool,
 }
 
@@ -13,7 +15,7 @@ impl Held {
     ghost use Rattle.std.specs.Prelude.{◌≡◌, false};
 
     /// The writer, before its first write.
-    pub(crate) fn new(bytes: Vec<u8>) -> Held
+    pub fn new(bytes: Vec<u8>) -> Held
         ensures bytes { result.bytes ≡ bytes }
         ensures failed { result.failed ≡ false }
     {
