@@ -114,14 +114,14 @@ class Reader:
                 self.calls[core] = None
                 return True
             self.change(core, call)
-        if does == "tells cores of":
+        if does == "asks cores to drop":
             self.tell(core, call["first"], call["end"])
         if does == "unlocks":
             call["held"] = []
         if does == "answers":
             self.calls[core] = None
             return True
-        order = ["checks its arguments", "locks", "decides on", "tells cores of", "awaits cores for", "unlocks", "answers"]
+        order = ["checks its arguments", "locks", "decides on", "asks cores to drop", "awaits cores for", "unlocks", "answers"]
         call["does"] = order[order.index(does) + 1]
         return True
 
@@ -242,7 +242,7 @@ class Reader:
             entries = [("tlb", page, entry) for page, entry in self.tlbs[core]]
             for place, page, (frame, write, execute) in entries + [("table", page, entry) for page, entry in sorted(self.tables[core].items())]:
                 going = [m[3] for m in self.inboxes[core] if m[1] <= page < m[2]]
-                tail = (" going: cleared" if going[0] else " going: posted") if going else ""
+                tail = (" stale: cleared" if going[0] else " stale: posted") if going else ""
                 yield f"core {core} {place} {page * 4096:#x} frame {frame} r{'w' if write else '-'}{'x' if execute else '-'}{tail}"
             for sender, first, end, cleared in self.inboxes[core]:
                 yield f"core {core} inbox from {sender} {first * 4096:#x}-{end * 4096:#x} {'second' if cleared else 'first'} take due"

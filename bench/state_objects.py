@@ -43,7 +43,7 @@ def line_of(members):
         else:
             place = "tlb" if "tlb" in left else "table"
             line += f" {place} {left.pop(place)} frame {left.pop('frame'):d} {left.pop('rights')}"
-            line += f" going: {left.pop('going')}" if "going" in left else ""
+            line += f" stale: {left.pop('stale')}" if "stale" in left else ""
     if left:
         raise SystemExit(f"{members} has {left} that no line shows")
     return line

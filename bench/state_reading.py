@@ -127,7 +127,7 @@ class Machine:
             entries += [("table", page, *self.tables[core][page]) for page in sorted(self.tables[core])]
             for place, page, frame, write, execute in entries:
                 going = [m[3] for m in self.inboxes[core] if m[1] <= page < m[2]]
-                tail = (" going: cleared" if going[0] else " going: posted") if going else ""
+                tail = (" stale: cleared" if going[0] else " stale: posted") if going else ""
                 out.append(f"core {core} {place} {page * 4096:#x} frame {frame} r{'w' if write else '-'}{'x' if execute else '-'}{tail}")
             for sender, first, end, cleared in self.inboxes[core]:
                 out.append(f"core {core} inbox from {sender} {first * 4096:#x}-{end * 4096:#x} {'second' if cleared else 'first'} take due")
@@ -273,7 +273,7 @@ def compare(words, text, due):
 def main():
     count, seed = (int(word) for word in (sys.argv[1:] + ["200", "1"])[:2]) if len(sys.argv) > 2 else (int((sys.argv[1:] or ["200"])[0]), 1)
     draw = random.Random(seed)
-    shown = dict.fromkeys(("", "going", "count frame", "queue frame", "flushed", "dirty"), 0)
+    shown = dict.fromkeys(("", "stale", "count frame", "queue frame", "flushed", "dirty"), 0)
     for _ in range(count):
         made, states = trace(draw)
         text = "\n".join(made) + "\n"

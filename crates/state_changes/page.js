@@ -71,7 +71,7 @@ function stateOf(text) {
       const [own, kind, rest] = [coreOf(Number(core[1])), core[2], core[3]];
       const word = rest.split(" ");
       if (kind === "tlb" || kind === "table")
-        own[kind].push({line, page: word[0], frame: word[2], rights: word[3], going: (/going: (\w+)/.exec(rest) || [])[1]});
+        own[kind].push({line, page: word[0], frame: word[2], rights: word[3], going: (/stale: (\w+)/.exec(rest) || [])[1]});
       else if (kind === "inbox")
         own.inbox.push({line, from: Number(word[1]), pages: word[2], due: word[3]});
       else if (kind === "count")
@@ -167,7 +167,7 @@ for (const bar of open.values()) bar.to = lines.length - 1;
 const dangers = [];
 const stale = new Map();
 states.forEach((text, line) => {
-  const now = new Set([...text.matchAll(/^core (\d+) (?:tlb|table) .* going/gm)].map((found) => Number(found[1])));
+  const now = new Set([...text.matchAll(/^core (\d+) (?:tlb|table) .* stale/gm)].map((found) => Number(found[1])));
   for (const core of now)
     if (!stale.has(core)) stale.set(core, line);
   for (const [core, begun] of [...stale])

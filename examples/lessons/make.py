@@ -16,7 +16,7 @@ machine after line N. `radixvm picture NAME.trace` draws what happened, and `rad
 """
 # The name of each lesson, its title, the line after which the state shows it, and four sentences.
 LESSONS = [
-    ("going", "A stale translation", 11, """\
+    ("stale", "A stale translation", 11, """\
 An munmap has to take the page from every core that may still use it, and can't reach into another core.
 So core 0 sends a message (a kernel sends an IPI), and waits. Core 1's translation is stale, and may still be used, since the munmap has no reply yet.
 Core 1 handles the message by two takes: the first clears its tables, the second its TLB. In between, as here, the TLB still translates the page.

@@ -179,7 +179,7 @@ ore, {call: null, holds: [], took: [], inbox: [], tlb: [], table: [], count: [],
 eturn state.cores.get(core);\n};\nfor (const line of partsOf(text)) {\nconst core = /^core (\\d+) (\\S+) ?(.*)$/\
 .exec(line);\nconst mapping = range.exec(line);\nif (core) {\nconst [own, kind, rest] = [coreOf(Number(core[1]))\
 , core[2], core[3]];\nconst word = rest.split(\" \");\nif (kind === \"tlb\" || kind === \"table\")\nown[kind].pu\
-sh({line, page: word[0], frame: word[2], rights: word[3], going: (/going: (\\w+)/.exec(rest) || [])[1]});\nelse \
+sh({line, page: word[0], frame: word[2], rights: word[3], going: (/stale: (\\w+)/.exec(rest) || [])[1]});\nelse \
 if (kind === \"inbox\")\nown.inbox.push({line, from: Number(word[1]), pages: word[2], due: word[3]});\nelse if (\
 kind === \"count\")\nown.count.push({line, frame: word[1], by: word[2]});\nelse if (kind === \"queue\")\nown.que\
 ue.push({line, frame: word[1], epoch: Number(word[3])});\nelse if (kind === \"holds\")\nown.holds.push(rest);\ne\
@@ -210,7 +210,7 @@ gExp(`^core ${event.core} inbox .* (first|second) take due`, \"m\").exec(states[
 \ncore: event.core,\nfrom: index,\nto: index,\nkind: due ? \"take\" : \"deed\",\ntext: event.kind + (due ? (due \
 === \"first\" ? \" 1\" : \" 2\") : \"\"),\nanswered: replies[index] === \"idle\"\n});\n}\n});\nfor (const bar of \
 open.values()) bar.to = lines.length - 1;\nconst dangers = [];\nconst stale = new Map();\nstates.forEach((text, \
-line) => {\nconst now = new Set([...text.matchAll(/^core (\\d+) (?:tlb|table) .* going/gm)].map((found) => Numbe\
+line) => {\nconst now = new Set([...text.matchAll(/^core (\\d+) (?:tlb|table) .* stale/gm)].map((found) => Numbe\
 r(found[1])));\nfor (const core of now)\nif (!stale.has(core)) stale.set(core, line);\nfor (const [core, begun] \
 of [...stale])\nif (!now.has(core) || line === lines.length) {\ndangers.push({core, from: begun - 1, to: line - \
 1});\nstale.delete(core);\n}\n});\nconst codes = (text) => `\\u0001${text}\\u0002`;  // what stands between the \

@@ -86,10 +86,10 @@ rights_of t = record { read = true; write = t.write; exec = t.exec }
 -- How far a message has come that takes a page away: it was posted, or the tables were cleared and
 -- the TLB still has the page. And the end of the line.
 abbrev pub gone_word : Form → Bool → List ℕ
-gone_word Text true = codes " going: cleared\n"
-gone_word Text false = codes " going: posted\n"
-gone_word Json true = codes ",\"going\":\"cleared\"}\n"
-gone_word Json false = codes ",\"going\":\"posted\"}\n"
+gone_word Text true = codes " stale: cleared\n"
+gone_word Text false = codes " stale: posted\n"
+gone_word Json true = codes ",\"stale\":\"cleared\"}\n"
+gone_word Json false = codes ",\"stale\":\"posted\"}\n"
 
 -- the oldest message that has the page says so
 abbrev pub going_word : Form → List Message → ℕ → List ℕ

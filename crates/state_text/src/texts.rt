@@ -41,10 +41,10 @@ fn gone_word(form: Form, is_cleared: bool) -> &'static str
     ensures { result.now ≡ gone_word form is_cleared }
 {
     match (form, is_cleared) {
-        (Form::Text, true) => " going: cleared\n",
-        (Form::Text, false) => " going: posted\n",
-        (Form::Json, true) => ",\"going\":\"cleared\"}\n",
-        (Form::Json, false) => ",\"going\":\"posted\"}\n",
+        (Form::Text, true) => " stale: cleared\n",
+        (Form::Text, false) => " stale: posted\n",
+        (Form::Json, true) => ",\"stale\":\"cleared\"}\n",
+        (Form::Json, false) => ",\"stale\":\"posted\"}\n",
     }
 }
 

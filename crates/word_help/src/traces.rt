@@ -262,7 +262,7 @@ Options:
                 number of the line of the trace at which it came
   --until COND  the first line after which the state is like this: its number,
                 and the state there. COND is one of
-                  stale   a translation is going (below)
+                  stale   a translation is stale (below)
                   waits   a call awaits other cores
                   unused  a frame in use has true count 0
   --brief       says only where an error is, and what it is
@@ -274,12 +274,12 @@ Output:
         the core has this call (mmap, munmap, mprotect, load, store or fetch;
         or call, if it has its reply). DOES is its next step, with these pages:
           checks its arguments
-          locks, cuts, unlocks     locks slots, splits one, or releases them
-          looks for room, gives back
+          locks, splits, unlocks   locks slots, splits one, or releases them
+          looks for a gap, gives back
                                    searches free pages, or unlocks pages that
                                    turned out not to be free
           decides on               finds the reply
-          tells cores of           sends shootdown messages
+          asks cores to drop       sends shootdown messages
           awaits cores for         waits for their acks
           translates, looks at     tries the access; after a page fault, finds
                                    what the page has
@@ -294,13 +294,12 @@ Output:
         first. Each translation permits loads, so PROT begins with r
   core C table ADDR frame F PROT
         the core's tables have the page, the lowest first
-  core C tlb ADDR frame F PROT going: posted
-  core C table ADDR frame F PROT going: posted
-  core C tlb ADDR frame F PROT going: cleared
-        the translation is stale: another core asked this one to drop the page,
-        and this one hasn't acknowledged. posted is before the first take;
-        cleared is between the takes, when the tables have lost the page and
-        the TLB still has it
+  core C tlb ADDR frame F PROT stale: posted
+  core C table ADDR frame F PROT stale: posted
+  core C tlb ADDR frame F PROT stale: cleared
+        another core asked this one to drop the page, and this one hasn't
+        acknowledged: posted is before the first take, cleared between the
+        takes, when the tables have lost the page and the TLB still has it
   core C inbox from D START-END first take due
   core C inbox from D START-END second take due
         core D waits until this one drops these pages, the oldest message first
@@ -332,7 +331,7 @@ With --json each line is an object with these members, in the same order:
   core, call [, page | first, end]
   core, holds [, page | first, end]
   core, took
-  core, tlb or table, frame, rights [, going]
+  core, tlb or table, frame, rights [, stale]
   core, inbox, from, first, end
   mapping
   page [, frame] [, cores]
@@ -344,7 +343,7 @@ With --json each line is an object with these members, in the same order:
 Cores, frames, counts and epochs are numbers; took and queue are a frame's
 number, and cores is a list of numbers; holds, flushed and dirty are true. All
 else are strings: tlb, table, page, first and end are addresses; call, rights
-and going have the words above; inbox says which take is due, and mapping is
+and stale have the words above; inbox says which take is due, and mapping is
 the line of a mapping.
 
 Examples:
@@ -501,7 +500,7 @@ an error has no page. It is held in memory, and may ask for as many calls as
 with run --log.
 
 Example:
-  radixvm html examples/lessons/going.trace > going.html
+  radixvm html examples/lessons/stale.trace > stale.html
 
 Status: 0; 2 for a bad text or bad arguments; 3 if reading, writing or memory
 failed.

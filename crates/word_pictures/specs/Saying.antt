@@ -68,7 +68,7 @@ FailsKnown page input f = FailsTo page.at input f ⊎ FailsUpTo page.at input f
 -- the words by which a state's text shows it: a translation that a message is to take away, a call that awaits other cores, a frame in use
 -- that nothing counts any more
 abbrev pub words_for : Condition → List ℕ
-words_for Stale = codes " going: "
+words_for Stale = codes " stale: "
 words_for Waits = codes " awaits cores"
 words_for Unused = codes " count 0 global"
 

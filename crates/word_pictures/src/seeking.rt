@@ -43,7 +43,7 @@ fn words_for(condition: Condition) -> &'static str
     ensures { result.now ≡ words_for condition }
 {
     match condition {
-        Condition::Stale => " going: ",
+        Condition::Stale => " stale: ",
         Condition::Waits => " awaits cores",
         Condition::Unused => " count 0 global",
     }
