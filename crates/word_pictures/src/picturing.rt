@@ -394,7 +394,10 @@ fn tell_lacking<E: Write>(all: u64, drawing: Drawing, errors: &mut E) {
             errors,
             "radixvm: the trace has {all} lines: --from is after them"
         ),
-        Drawing::History => writeln!(errors, "radixvm: no line tells a call of a history"),
+        Drawing::History => writeln!(
+            errors,
+            "radixvm: no line has a call of a history\n  expected lines BEGIN END cC! REQ = REPLY, or those of run --echo"
+        ),
         Drawing::Answer(Question::First(condition)) => writeln!(
             errors,
             "radixvm: the trace has {all} lines: after none of them {}",
