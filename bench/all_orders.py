@@ -180,9 +180,9 @@ def judged(calls, folder, flags):
             is_legal &= given.returncode == 0
         if not is_legal or told.stdout != f"legal {len(calls)}\n":
             sys.exit(f"the order of this history isn't legal: {told.stdout}{alone.stdout}{alone.stderr}\n{text}")
-    if told.returncode not in (0, 1, 4):
+    if told.returncode not in (0, 1, 4, 5):
         sys.exit(f"{told.stdout}{told.stderr}\n{text}")
-    return told.returncode, text
+    return 1 if told.returncode == 5 else told.returncode, text
 
 
 class Counts:

@@ -28,7 +28,7 @@ DoesWork A parts CanFold Folds For.ImportEach list text out n = ImportsEach text
 DoesWork A parts CanFold Folds For.ImportAccesses list text out n = ImportsAccesses text out n
 DoesWork A parts CanFold Folds (For.Audit terms) list text out n = AuditsReplies terms text out n
 DoesWork A parts CanFold Folds (For.AuditAll terms) list text out n = ReviewsReplies terms text out n
-DoesWork A parts CanFold Folds (For.Overlapping overlaps) list text out n = JudgesOrGivesUp A overlaps.any_place text out n
+DoesWork A parts CanFold Folds (For.Overlapping overlaps is_alone) list text out n = JudgesOrGivesUp A is_alone overlaps.any_place text out n
 DoesWork A parts CanFold Folds (For.ByKernel any_place moving) list text out n = JudgesByKernel A any_place moving text out n
 DoesWork A parts CanFold Folds (For.Picture drawing) list text out n = PicturesTrace drawing text out n
 DoesWork A parts CanFold Folds (For.Litmus wanted limit) list text out n = TellsTest (record { wanted = wanted; limit = limit }) list text out n

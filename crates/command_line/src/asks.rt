@@ -31,6 +31,8 @@ pub(crate) struct Asks<'a> {
     pub is_coloured: bool,
     // Whether it is a litmus test whose clauses are looked at.
     pub has_clauses: bool,
+    // Whether replies are judged, and mappings may have only the first place.
+    pub may_place: bool,
     // How much of it is kept for that.
     pub keeps: Keeps,
 }
@@ -51,7 +53,7 @@ fn manner_of(work: Work) -> Manner {
         Work::Certify => (TextKind::Notes, CallLimit::Usual, false),
         Work::Live { .. } | Work::CertifyLive { .. } | Work::LiveHistory { .. } | Work::ShareLive =>
             (TextKind::Script, CallLimit::Usual, false),
-        Work::Audit(_) | Work::AuditAll(_) | Work::Overlapping(_) | Work::ByKernel { .. } => {
+        Work::Audit(_) | Work::AuditAll(_) | Work::Overlapping { .. } | Work::ByKernel { .. } => {
             (TextKind::Replies, CallLimit::Usual, false)
         }
         Work::Picture(Drawing::Listing(limit)) => (
@@ -93,7 +95,7 @@ fn example_of(work: Work) -> &'static str {
         | Work::PictureWitness(_)
         | Work::Audit(_)
         | Work::AuditAll(_)
-        | Work::Overlapping(_)
+        | Work::Overlapping { .. }
         | Work::ByKernel { .. } => "vm 1 4",
     }
 }
@@ -109,12 +111,21 @@ fn has_clauses(work: Work) -> bool {
     )
 }
 
+// Whether replies are judged, and mappings may have only the first place.
+fn is_first_place(work: Work) -> bool {
+    match work {
+        Work::Audit(terms) | Work::AuditAll(terms) => !terms.any_place,
+        _ => false,
+    }
+}
+
 // How much of the text is kept: all of one that is read whole before it is acted on, since its lines are told of once
 // all is read.
 fn keeps_of(work: Work, explains: bool) -> Keeps {
     match work {
         Work::Audit(_) | Work::AuditAll(_) => Keeps::All,
-        Work::Overlapping(_) | Work::ByKernel { .. } | Work::Picture(_) if explains => Keeps::All,
+        Work::Overlapping { .. } | Work::ByKernel { .. } | Work::Picture(_) if explains =>
+            Keeps::All,
         Work::Import(_) | Work::ImportReplies { .. } | Work::ImportEach | Work::ImportAccesses =>
             Keeps::Nothing,
         _ if explains => Keeps::End,
@@ -140,6 +151,7 @@ pub(crate) fn asks_of<'a>(task: Command<'a>, is_coloured: bool) -> Asks<'a>
         explains,
         is_coloured,
         has_clauses: has_clauses(task.work),
+        may_place: explains && is_first_place(task.work),
         keeps: keeps_of(task.work, explains),
     }
 }

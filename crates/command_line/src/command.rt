@@ -143,7 +143,7 @@ fn act<T: Threads + Wait + Sync, R: Runner<Global>, L: Source, S: Source, W: Sin
     ensures parts { task.entry.work ≡ Work.ImportEach → result.status ≢ 3
         → Reads (S.stream reader.old) (S.stream reader.new) (λ input unread.
         map parted aside.new.parts.items ≡ parts_of nothing_taken input) }
-    ensures within { result.status ≤ 4 }
+    ensures within { result.status ≤ 5 }
 {
     match task.work {
         Work::Replay(shows) => run(alloc, reader, out, errors, shows),
@@ -165,12 +165,13 @@ fn act<T: Threads + Wait + Sync, R: Runner<Global>, L: Source, S: Source, W: Sin
         Work::ImportAccesses => import_accesses(alloc, reader, out, errors),
         Work::Audit(terms) => audit(alloc, reader, out, terms),
         Work::AuditAll(terms) => audit_each(alloc, reader, out, terms),
-        Work::Overlapping(overlaps) => audit_overlapping(
+        Work::Overlapping { overlaps, is_alone } => audit_overlapping(
             alloc,
             list,
             reader,
             out,
             overlaps,
+            is_alone,
             &mut aside.order,
         ),
         Work::ByKernel { any_place, moving } => {
@@ -433,7 +434,8 @@ fn perform_saving<I: Read + Drop, F: Files, T: Threads + Wait + Sync, R: Runner<
 
 /// Does what the words say, the program's name first, and answers the status: 0, yes; 1, no, as of notes that are
 /// refused or a reply that is illegal; 2 for an error in the words or in the text; 3 where the system failed: reading,
-/// writing, memory or a thread; 4, undecided; and 141 where the reader of the output has gone. An error is printed on
+/// writing, memory or a thread; 4, undecided; 5, no order, but legal by the rule that kernels keep; and 141 where the
+/// reader of the output has gone. An error is printed on
 /// `errors`, as `radixvm: NAME:LINE:COLUMN: ` and what it is, and below that the line and what was expected. The text
 /// is what the named file gives, or `standard` where none is named, or `-`, and of several files that an import names
 /// their lines in the order of their times. The host is where files are opened, what has threads, and how scripts are

@@ -14,7 +14,7 @@ use trace_io::IoFault;
 use trace_words::fault::TraceFault;
 use word_faults::explain::explain;
 use word_faults::histories::{explain_disorder, explain_history};
-use word_faults::noting::{Place, show_request, tell_notes, tell_undecided};
+use word_faults::noting::{Place, show_request, tell_notes, tell_of_places, tell_undecided};
 use word_parts::ended::Trouble;
 use word_parts::keeping::Keeping;
 use word_parts::pointing::Report;
@@ -126,7 +126,12 @@ fn report_error<'a, R, E: Write>(
     let (line, what) = parts_of(words);
     let mut report = Report::new(errors, name, line, what, asks.is_coloured);
     match trouble {
-        Trouble::Illegal(number) => show_request(number, &read.kept, &mut report),
+        Trouble::Illegal(number) => {
+            show_request(number, &read.kept, &mut report);
+            if asks.may_place {
+                tell_of_places(number, &read.kept, &mut report);
+            }
+        }
         Trouble::Undecided(number) => {
             show_request(number, &read.kept, &mut report);
             tell_undecided(&mut report);

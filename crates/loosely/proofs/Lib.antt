@@ -1,3 +1,4 @@
+pub mod BesidesLemmas
 pub mod EndLemmas
 pub mod KernelLemmas
 pub mod RuleLemmas

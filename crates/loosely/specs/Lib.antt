@@ -1,3 +1,4 @@
+pub mod Besides
 pub mod Effects
 pub mod Ends
 pub mod Kernel

@@ -37,12 +37,12 @@ const UNCHANGED: u64 = u64::MAX;
 // The calls of a history, the replies of those that wait at its end, and what a search finds of them: moves, or that
 // none gets to the end of a call.
 #[derive(Drop)]
-struct Tried<A: Allocator> {
-    replies: Vec<Reply, A>,
-    calls: Vec<Timed, A>,
-    moves: Vec<Move, A>,
-    is_found: bool,
-    stuck: usize,
+pub(crate) struct Tried<A: Allocator> {
+    pub replies: Vec<Reply, A>,
+    pub calls: Vec<Timed, A>,
+    pub moves: Vec<Move, A>,
+    pub is_found: bool,
+    pub stuck: usize,
 }
 
 // A place as a number.
@@ -197,7 +197,7 @@ fn try_with<A: Allocator + Clone + Drop>(
 }
 
 // Searches an order of a history's calls.
-fn search_history<A: Allocator + Clone + Drop>(
+pub(crate) fn search_history<A: Allocator + Clone + Drop>(
     alloc: &A,
     history: &History<A>,
     any_place: bool,
@@ -215,7 +215,7 @@ fn search_history<A: Allocator + Clone + Drop>(
 }
 
 // Tells whether the moves are an order by the kernels' rule of these calls of a space with these files.
-fn is_order<M: SlotMap + Drop, A: Allocator + Clone + Drop>(
+pub(crate) fn is_order<M: SlotMap + Drop, A: Allocator + Clone + Drop>(
     alloc: &A,
     map: M,
     files: &[FileSpec<A>],

@@ -9,7 +9,7 @@ ghost use Rattle.loosely.specs.Kernel.{EndsByKernel};
 use crate::kernel::judge_by_rule;
 use orders_text::HistoryFault;
 use overlapping::Ruled;
-use overlapping::overlapping::told_text;
+use overlapping::telling::told_text;
 use slot_lock::SlotMap;
 use std::alloc::Allocator;
 use trace_io::IoFault;

@@ -1,64 +1,9 @@
--- How a judgement ends
-use Rattle.std.proofs.Common.{◌≡◌, Bool, ℕ, List, ◌++◌, Option, Ok, Err, refl, subst, sym}
-use Rattle.std.specs.Io.KnownBytes.{Appends}
-use Rattle.trace_io.specs.Lines.{lines_of}
-use Rattle.trace_io.specs.Sink.{AppendsFront}
-use Rattle.trace_io.specs.Source.{Stream, Reads}
+-- What is told of reads and writes
+use Rattle.std.proofs.Common.{◌≡◌, List, ℕ, refl}
 use Rattle.trace_io.specs.declared.fault.IoFault.{IoFault}
-use Rattle.trace_io.specs.declared.fault.IoFault.TheVariants.{ReadFailed, NoMemory, WriteFailed}
-use Rattle.trace_io.proofs.IoLemmas.{keeps_same}
-use Rattle.trace_io.proofs.LineLemmas.{reads_map, reads_none}
-use Rattle.orders_text.specs.Faults.{IsAtFault}
+use Rattle.trace_io.specs.declared.fault.IoFault.TheVariants.{NoMemory}
 use Rattle.orders_text.specs.declared.faults.HistoryFault.{HistoryFault}
 use Rattle.orders_text.specs.declared.faults.HistoryFault.TheVariants.{Io}
-use Rattle.overlapping.specs.Ends.{Fails, JudgementEnds, ruling_text}
-use Rattle.overlapping.specs.Explained.{IsExplained}
-use Rattle.overlapping.specs.Rulings.{IsRuling}
-use Rattle.overlapping.specs.declared.judging.Ruled.{Ruled}
-
-pub judges_all : {A : Type 0} (any_place : Bool) (input text : List ℕ) (old new : Option (List ℕ)) (ruled : Ruled A)
-    → IsRuling any_place (lines_of input) ruled.ruling → IsExplained any_place (lines_of input) ruled.ruling ruled.explanation.items
-    → text ≡ ruling_text ruled.ruling ++ ruled.explanation.items → Appends old new text → JudgementEnds any_place input old new (Ok ruled)
-judges_all any_place input text old new ruled v x e w =
-    record { is = v; explanation = ruled.explanation.items; explained = x; written = subst (Appends old new) e w }
-
-pub breaks_off : {A : Type 0} (any_place : Bool) (input text : List ℕ) (old new : Option (List ℕ)) (ruled : Ruled A) (f : HistoryFault)
-    → f ≡ Io WriteFailed → IsRuling any_place (lines_of input) ruled.ruling → IsExplained any_place (lines_of input) ruled.ruling ruled.explanation.items
-    → text ≡ ruling_text ruled.ruling ++ ruled.explanation.items → AppendsFront old new text
-    → JudgementEnds {A = A} any_place input old new (Err f)
-breaks_off {A} any_place input text old new ruled f is v x e w =
-    subst (λ x. JudgementEnds {A = A} any_place input old new (Err x)) (sym is) (record {
-      ruling = ruled.ruling;
-      is = v;
-      explanation = ruled.explanation.items;
-      explained = x;
-      written = subst (AppendsFront old new) e w;
-    })
-
-pub fails_so : (any_place : Bool) (input : List ℕ) (o : Option (List ℕ)) (f : HistoryFault) → IsAtFault (lines_of input) f
-    → Fails any_place input o o f
-fails_so any_place input o (Io ReadFailed) h = absurd h
-fails_so any_place input o (Io WriteFailed) h = absurd h
-fails_so any_place input o f h = (h, keeps_same o)
-
-pub not_read : (lines : List (List ℕ)) → IsAtFault lines (Io ReadFailed) → ⊥
-not_read lines h = h
-
-unread_fails : (any_place : Bool) (input : List ℕ) (o : Option (List ℕ)) (f : IoFault) → (f ≡ WriteFailed → ⊥)
-    → Fails any_place input o o (Io f)
-unread_fails any_place input o NoMemory n = (tt, keeps_same o)
-unread_fails any_place input o ReadFailed n = keeps_same o
-unread_fails any_place input o WriteFailed n = absurd (n refl)
-
-pub stopped : (a b : Stream) (any_place : Bool) (o : Option (List ℕ)) (f : IoFault) → (f ≡ WriteFailed → ⊥) → Reads a b (λ xs ys. xs ≡ xs)
-    → Reads a b (λ input unread. Fails any_place input o o (Io f))
-stopped a b any_place o f n r = reads_map a b _ _ r (λ xs ys k e. unread_fails any_place xs o f n)
-
-pub unmade : (a : Stream) (any_place : Bool) (o : Option (List ℕ))
-    → Reads a a (λ input unread. Fails any_place input o o (Io NoMemory))
-unmade a any_place o = reads_none a _ (λ xs. (tt, keeps_same o))
-
--- ---- what is told of reads and writes
 
 -- which one it is of those that reading and writing have in common
 pub io_of : HistoryFault → IoFault

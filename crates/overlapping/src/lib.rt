@@ -1,7 +1,7 @@
 //! The judgement of overlapping calls, by an order that is found or given, and checked.
 //!
-//! - `judging` (`judge_text`): a history; `overlapping`: read whole and told; `found`, `given`, `order_text`: where
-//!   an order comes from.
+//! - `judging` (`judge_text`): a history; `telling`: the text of a ruling; `found`, `given`, `order_text`: where an
+//!   order comes from.
 //! - `auditing` (`audit_text`), `replies`: a text of replies, in the order of its lines or in another; `story`: a
 //!   history as a text.
 //!
@@ -14,11 +14,10 @@ mod found;
 mod given;
 pub mod judging;
 mod order_text;
-pub mod overlapping;
 pub mod replies;
 mod story;
+pub mod telling;
 
 pub use auditing::audit_text;
 pub use judging::{By, Ruled, Ruling, Shown, Told, bare, explain_whole};
-pub use overlapping::judge_overlapping;
 pub use replies::Judgement;

@@ -4,6 +4,9 @@ use Rattle.audit_text.specs.declared.input.AuditFault.{AuditFault}
 use Rattle.audit_text.specs.declared.input.AuditFault.TheVariants as For
 use Rattle.audit_text.specs.declared.judging.Verdict.{Verdict}
 use Rattle.audit_text.specs.declared.judging.Verdict.TheVariants.{Legal, Illegal, Undecided}
+use Rattle.loosely.specs.declared.besides.Besides.{Besides}
+use Rattle.loosely.specs.declared.besides.Besides.TheVariants as With
+use Rattle.loosely.specs.declared.telling.Judged.{Judged}
 use Rattle.orders_text.specs.declared.faults.HistoryFault.{HistoryFault}
 use Rattle.orders_text.specs.declared.faults.HistoryFault.TheVariants as Why
 use Rattle.overlapping.specs.Replies.{verdict_of}
@@ -40,6 +43,17 @@ ruling_status (By.Legal calls) = 0
 ruling_status (By.NoOrder line reply) = 1
 ruling_status (By.Undecided line) = 4
 
+-- what is said besides of calls that have none makes 5 of it
+abbrev pub besides_status : Besides → ℕ → ℕ
+besides_status With.Nothing n = n
+besides_status With.Kernel n = 5
+besides_status With.Moving n = 5
+
+abbrev pub calls_status : {A : Type 0} → Result (Judged A) HistoryFault → ℕ
+calls_status (Ok judged) = besides_status judged.besides (ruling_status judged.ruled.ruling)
+calls_status (Err f) = history_fault_status f
+
+-- by the kernels' rule alone
 abbrev pub judgement_status : {A : Type 0} → Result (Ruled A) HistoryFault → ℕ
 judgement_status (Ok ruled) = ruling_status ruled.ruling
 judgement_status (Err f) = history_fault_status f

@@ -1,12 +1,13 @@
 //! What the command `audit` does.
 ghost use Rattle.std.specs.Prelude.{◌≡◌, ◌≤◌};
-ghost use Rattle.word_audit.specs.Status.{audit_fault_status, found_status, history_fault_status, ruling_status};
+ghost use Rattle.word_audit.specs.Status.{audit_fault_status, besides_status, found_status, history_fault_status, ruling_status};
 ghost use Rattle.word_audit.specs.Words.{AuditsReplies, JudgesCalls, JudgesOrGivesUp, ReviewsReplies};
 ghost use Rattle.trace_io.specs.Io.{read_from, written_to};
 
 use audit_text::{AuditFault, Terms, Verdict, audit_all};
+use loosely::{Besides, Manner, Maps, judge_calls};
 use orders_text::HistoryFault;
-use overlapping::{By, Ruling, audit_text, judge_overlapping};
+use overlapping::{By, Ruling, audit_text};
 use radix_range::RadixMap;
 use std::alloc::Global;
 use trace_io::IoFault;
@@ -139,59 +140,96 @@ pub(crate) fn ended_by(ruling: Ruling) -> Ended
     }
 }
 
-// Judges calls that overlap, by an order that is come by so.
-fn judge_by<S: Source, W: Sink>(
+// How the judgement of a history ended, of which this is said besides.
+fn ended_besides(ruling: Ruling, besides: Besides) -> Ended
+    ensures value { result.status ≡ besides_status besides (ruling_status ruling) }
+    ensures within { result.status ≤ 5 }
+{
+    let ended = ended_by(ruling);
+    match besides {
+        Besides::Nothing => ended,
+        Besides::Kernel | Besides::Moving => Ended {
+            status: 5,
+            trouble: ended.trouble,
+        },
+    }
+}
+
+// Judges calls that overlap so.
+fn judge_so<S: Source, W: Sink>(
     alloc: Global,
-    by: By<'_>,
+    manner: Manner<'_>,
     reader: &mut S,
     out: &mut W,
-    overlaps: Overlaps,
     order: &mut Vec<u8>,
 ) -> Ended
-    ensures ends { JudgesCalls Global overlaps.any_place
+    ensures ends { JudgesCalls Global manner.is_alone manner.any_place
         (read_from S.Source reader.old reader.new) (written_to W.Sink out.old out.new) result.status }
-    ensures within { result.status ≤ 4 }
+    ensures within { result.status ≤ 5 }
 {
-    let Ok(map) = RadixMap::new(alloc) else {
+    let Ok(plain) = RadixMap::new(alloc) else {
         return refuse_history(HistoryFault::Io(IoFault::NoMemory));
     };
-    let any_place = overlaps.any_place;
-    match judge_overlapping(alloc, map, reader, out, any_place, by, overlaps.is_wanted) {
-        Ok(ruled) => {
-            let ruling = ruled.ruling;
-            *order = ruled.order;
-            ended_by(ruling)
+    let Ok(kernel) = RadixMap::new(alloc) else {
+        return refuse_history(HistoryFault::Io(IoFault::NoMemory));
+    };
+    let Ok(moving) = RadixMap::new(alloc) else {
+        return refuse_history(HistoryFault::Io(IoFault::NoMemory));
+    };
+    let maps = Maps {
+        plain,
+        kernel,
+        moving,
+    };
+    match judge_calls(alloc, maps, reader, out, manner) {
+        Ok(judged) => {
+            let ended = ended_besides(judged.ruled.ruling, judged.besides);
+            *order = judged.ruled.order;
+            ended
         }
         Err(fault) => refuse_history(fault),
     }
 }
 
 /// Judges a history of calls that overlap, and answers how that ended: with 0 where they have an order, 1 where they have none, 4 where none
-/// was found, or the status of an error. The order is searched, or read from `list`. It is left in `order`.
+/// was found, 5 where they have none but are legal by the rule that kernels keep, or the status of an error. The order is searched, or read
+/// from `list`. It is left in `order`. With `is_alone` nothing is said of that rule.
 pub fn audit_overlapping<L: Source, S: Source, W: Sink>(
     alloc: Global,
     list: &mut L,
     reader: &mut S,
     out: &mut W,
     overlaps: Overlaps,
+    is_alone: bool,
     order: &mut Vec<u8>,
 ) -> Ended
-    ensures ends { JudgesOrGivesUp Global overlaps.any_place
+    ensures ends { JudgesOrGivesUp Global is_alone overlaps.any_place
         (read_from S.Source reader.old reader.new) (written_to W.Sink out.old out.new) result.status }
-    ensures within { result.status ≤ 4 }
+    ensures within { result.status ≤ 5 }
 {
+    let any_place = overlaps.any_place;
+    let is_wanted = overlaps.is_wanted;
     if !overlaps.is_given {
-        return judge_by(alloc, By::Search, reader, out, overlaps, order);
+        let by = By::Search;
+        let manner = Manner {
+            any_place,
+            by,
+            is_wanted,
+            is_alone,
+        };
+        return judge_so(alloc, manner, reader, out, order);
     }
     match read_all(alloc, list) {
-        Ok(given) => judge_by(
-            alloc,
-            By::Given(given.as_slice()),
-            reader,
-            out,
-            overlaps,
-            order,
-        ),
+        Ok(given) => {
+            let by = By::Given(given.as_slice());
+            let manner = Manner {
+                any_place,
+                by,
+                is_wanted,
+                is_alone,
+            };
+            judge_so(alloc, manner, reader, out, order)
+        }
         Err(fault) => refuse_history(HistoryFault::Io(fault)),
     }
 }

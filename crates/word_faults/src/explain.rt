@@ -52,6 +52,7 @@ fn byte_rule(byte: Option<&u8>) -> &'static str {
 fn event_start(kind: TextKind, line: &[u8]) -> usize {
     match kind {
         TextKind::Notes => word_start(line, 1),
+        TextKind::Timed => word_start(line, 2),
         TextKind::Trace | TextKind::Script | TextKind::Replies => 0,
     }
 }
@@ -88,13 +89,8 @@ fn explain_part<E: Write>(
     report.write(&mut text);
 }
 
-// Tells of the line of an event with what it came to.
-fn explain_event<E: Write>(manner: Manner, line: &[u8], report: &mut Report<'_, E>) {
-    if manner.kind == TextKind::Notes && read_number(word_at(line, 0)).is_none() {
-        report.point(line, word_start(line, 0));
-        report.expect("a ticket, which is a number below 2^64, before the event");
-        return;
-    }
+/// Tells of the line of an event, after its ticket or its times, and of what it came to.
+pub(crate) fn explain_whole<E: Write>(manner: Manner, line: &[u8], report: &mut Report<'_, E>) {
     let from = event_start(manner.kind, line);
     let sign = sign_at(line);
     if is_line(manner.kind, behind(front(line, sign), from)) {
@@ -102,6 +98,26 @@ fn explain_event<E: Write>(manner: Manner, line: &[u8], report: &mut Report<'_, 
     } else {
         explain_part(manner, line, (from, sign), report);
     }
+}
+
+/// Whether a line begins with two numbers, as a call of a history does.
+pub(crate) fn is_timed(line: &[u8]) -> bool {
+    read_number(word_at(line, 0)).is_some() && read_number(word_at(line, 1)).is_some()
+}
+
+// Tells of the line of an event with what it came to.
+fn explain_event<E: Write>(manner: Manner, line: &[u8], report: &mut Report<'_, E>) {
+    if manner.kind == TextKind::Notes && read_number(word_at(line, 0)).is_none() {
+        report.point(line, word_start(line, 0));
+        report.expect("a ticket, which is a number below 2^64, before the event");
+        return;
+    }
+    if manner.kind == TextKind::Replies && is_timed(line) {
+        report.point(line, word_start(line, 0));
+        report.expect("a call without times; audit --overlapping judges calls with times");
+        return;
+    }
+    explain_whole(manner, line, report);
 }
 
 // Tells of a bad line whose words are no line's of the text.
@@ -151,8 +167,8 @@ fn explain_place<E: Write>(manner: Manner, said: Line, line: &[u8], report: &mut
     }
 }
 
-// Tells of a bad line.
-fn explain_bad<E: Write>(manner: Manner, line: &[u8], report: &mut Report<'_, E>) {
+/// Tells of a bad line.
+pub(crate) fn explain_bad<E: Write>(manner: Manner, line: &[u8], report: &mut Report<'_, E>) {
     if !is_printable(line) {
         let at = first_unprintable(line);
         report.point(line, at);

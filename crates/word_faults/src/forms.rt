@@ -16,6 +16,8 @@ pub enum TextKind {
     Notes,
     /// Calls with their replies.
     Replies,
+    /// The same, but that each line is a call of a history, after its times.
+    Timed,
 }
 
 // The lines of a trace: the names of their words as help has them, and such a line.
@@ -74,6 +76,8 @@ const DECLARED: &[&str] = &["vm", "file"];
 // What the forms of events begin with that texts of these kinds have.
 const OF_SCRIPTS: &[&str] = &["cC!", "cC flush", "cC review"];
 
+const OF_HISTORIES: &[&str] = &["cC!"];
+
 const OF_NOTES: &[&str] = &[
     "fold",
     "cC call",
@@ -104,6 +108,7 @@ fn may_have(kind: TextKind, form: &str) -> bool {
     match kind {
         TextKind::Trace | TextKind::Replies => true,
         TextKind::Script => begins_with(form, DECLARED) || begins_with(form, OF_SCRIPTS),
+        TextKind::Timed => begins_with(form, OF_HISTORIES),
         TextKind::Notes => begins_with(form, OF_NOTES),
     }
 }

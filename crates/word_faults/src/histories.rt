@@ -1,10 +1,24 @@
 //! What more is told of a history: why a text is none, and where no order of its calls was found.
 
+use crate::explain::{Manner, explain_bad, explain_whole, is_timed};
+use crate::forms::TextKind;
+use machine_model::CallLimit;
 use orders_text::HistoryFault;
 use std::io::Write;
+use trace_text::is_printable;
+use trace_text::number::read_number;
 use word_parts::ended::Trouble;
 use word_parts::keeping::KeptText;
-use word_parts::pointing::Report;
+use word_parts::pointing::{Report, word_at, word_start};
+
+// How lines of this kind are read.
+fn manner(kind: TextKind) -> Manner {
+    Manner {
+        kind,
+        limit: CallLimit::Usual,
+        may_be_long: false,
+    }
+}
 
 // Shows the line with this number.
 fn show_number<E: Write>(number: u64, kept: &KeptText, report: &mut Report<'_, E>) {
@@ -13,13 +27,38 @@ fn show_number<E: Write>(number: u64, kept: &KeptText, report: &mut Report<'_, E
     }
 }
 
+// Tells of a bad line that begins with a number.
+fn explain_timed<E: Write>(line: &[u8], report: &mut Report<'_, E>) {
+    if !is_timed(line) {
+        report.point(line, word_start(line, 1));
+        report.expect("END, a number below 2^64, after BEGIN");
+        return;
+    }
+    if !word_at(line, 2).ends_with(b"!") {
+        report.point(line, word_start(line, 2));
+        report.expect("cC! after BEGIN and END: C is a core's number, 0 to 63");
+        return;
+    }
+    explain_whole(manner(TextKind::Timed), line, report);
+}
+
+// Tells of a bad line.
+fn explain_line<E: Write>(line: &[u8], report: &mut Report<'_, E>) {
+    if is_printable(line) && read_number(word_at(line, 0)).is_some() {
+        explain_timed(line, report);
+    } else {
+        explain_bad(manner(TextKind::Replies), line, report);
+    }
+    report.tell("a call is BEGIN END cC! REQ = REPLY: 10 14 c0! munmap 0x10000 4096 = done");
+}
+
 /// Writes what is known of a fault and its place: its lines, and what was expected.
 pub fn explain_history<E: Write>(fault: HistoryFault, kept: &KeptText, report: &mut Report<'_, E>) {
     match fault {
         HistoryFault::BadLine(number) => {
-            show_number(number, kept, report);
-            report.expect("BEGIN END cC! REQ = REPLY, or in front of all calls a vm or file line");
-            report.tell("for example 10 14 c0! munmap 0x10000 4096 = done");
+            if let Some(line) = kept.line(number) {
+                explain_line(line, report);
+            }
         }
         HistoryFault::TooLong(_) => report.expect("at most 512 bytes in a line"),
         HistoryFault::NoVmLine => report.expect("vm CORES FRAMES in front, for example vm 1 4"),

@@ -59,6 +59,7 @@ fn passed_rule(kind: TextKind, line: &[u8]) -> Option<&'static str> {
 fn outcome_rule(kind: TextKind) -> &'static str {
     match kind {
         TextKind::Notes => "step, idle, full, wait slot C, wait acks C.., or a reply,",
+        TextKind::Timed => "a reply,",
         _ => "wait .., or a reply,",
     }
 }
@@ -67,6 +68,7 @@ fn outcome_rule(kind: TextKind) -> &'static str {
 fn named_rule(kind: TextKind) -> &'static str {
     match kind {
         TextKind::Notes => "the event's core to be one of the vm line",
+        TextKind::Timed => "one space on each side of =",
         _ => "one space on each side of =; a call that waits where one goes on, else none",
     }
 }

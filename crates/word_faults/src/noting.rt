@@ -5,7 +5,7 @@ use std::io::Write;
 use trace_text::{Action, Line, read_line};
 use vm_base::{CoreId, Flags, Request};
 use word_parts::keeping::KeptText;
-use word_parts::pointing::{Report, behind, word_at, word_start};
+use word_parts::pointing::{Report, behind, front, word_at, word_start};
 
 /// A line of a text, or all lines before it.
 #[derive(Clone, Copy)]
@@ -205,6 +205,29 @@ pub fn show_request<E: Write>(number: u64, kept: &KeptText, report: &mut Report<
     report.begin_at(reply_at(line));
     show_asked(number, line, kept, report);
     report.point(line, reply_at(line));
+}
+
+// Whether a line asks for a mapping without `MAP_FIXED`, and tells what it came to.
+fn is_placed(line: &[u8]) -> bool {
+    let mut end = 0usize;
+    for (at, byte) in line.iter().enumerate() {
+        if *byte == b'=' {
+            end = at;
+        }
+    }
+    match read_line(front(line, end)) {
+        Some(said) => matches!(flags_of(said), Some(flags) if !flags.fixed),
+        None => false,
+    }
+}
+
+/// Tells of `--any-place`, if the line with this number has the reply to a mapping without `MAP_FIXED`.
+pub fn tell_of_places<E: Write>(number: u64, kept: &KeptText, report: &mut Report<'_, E>) {
+    if let Some(line) = kept.line(number)
+        && is_placed(line)
+    {
+        report.tell("with --any-place it may be at any free pages, or be enomem");
+    }
 }
 
 /// Tells why a reply isn't told to be illegal, which isn't right in the order of the replies.

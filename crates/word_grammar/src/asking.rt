@@ -65,9 +65,14 @@ pub enum Work {
     Audit(Terms),
     /// The same, which goes on after a wrong one.
     AuditAll(Terms),
-    /// The judgement of calls that overlap, by an order that is searched, or given.
-    Overlapping(Overlaps),
-    /// The same, by the rule that kernels keep; whether a mapping may have any place, and threads may move between cores.
+    /// The judgement of calls that overlap, by one moment for each, in an order that is searched, or given; and, unless
+    /// that is to stand alone, by the rule that kernels keep where there is no such order.
+    Overlapping {
+        overlaps: Overlaps,
+        is_alone: bool,
+    },
+    /// The same, by the rule that kernels keep alone; whether a mapping may have any place, and threads may move
+    /// between cores.
     ByKernel {
         any_place: bool,
         moving: bool,
@@ -429,7 +434,10 @@ fn overlapping<'a>(words: &ArgMatches<'a>) -> Command<'a> {
             moving: words.get_flag("moving"),
         }
     } else {
-        Work::Overlapping(overlaps)
+        Work::Overlapping {
+            overlaps,
+            is_alone: words.get_flag("strict"),
+        }
     };
     Command {
         maps: given,

@@ -171,7 +171,7 @@ const IMPORT_USAGE: &str =
     "radixvm import [--lackey | --all DIR | [--replies] [--pid N] [--one-process] [--maps FILE] [--from-empty]] [--brief] [FILE..]";
 
 const AUDIT_USAGE: &str =
-    "radixvm audit [--overlapping [--kernel [--moving] | [--given IN] [--order OUT]] | [--strict] [--all]] [--any-place] [--brief] [FILE]";
+    "radixvm audit [--overlapping [--kernel [--moving] | [--strict] [--given IN] [--order OUT]] | [--strict] [--all]] [--any-place] [--brief] [FILE]";
 
 const LITMUS_USAGE: &str =
     "radixvm litmus [--to-c | [--limit N] [--list | --witness N | --picture N | --observed COUNTS | --live N]] [--brief] [FILE]";
@@ -268,9 +268,9 @@ fn audit_word<'a>(alloc: Global) -> Result<Command<'a>, AllocError>
         flag("any-place"),
         flag("strict"),
         flag("all"),
-        flag("overlapping").without(&["strict", "all"]),
-        of_orders(name("given"), &["strict", "all"]),
-        of_orders(name("order"), &["strict", "all"]),
+        flag("overlapping").without(&["all"]),
+        of_orders(name("given"), &["all"]),
+        of_orders(name("order"), &["all"]),
         of_orders(flag("kernel"), &["strict", "all", "given", "order"]),
         flag("moving")
             .beside("kernel")

@@ -35,7 +35,7 @@ radixvm run [--summary | [--echo] [--state] [--log]] [--long]
                       [--replies] [--pid N] [--one-process]
                       [--maps FILE] [--from-empty]] [--brief] [FILE..]
        radixvm audit [--overlapping [--kernel [--moving] |
-                                     [--given IN] [--order OUT]] |
+                                     [--strict] [--given IN] [--order OUT]] |
                      [--strict] [--all]] [--any-place] [--brief] [FILE]
        radixvm picture [--history | --lives |
                         [--steps] [--from N] [--to N]]

@@ -278,13 +278,15 @@ audit judges the replies of another address space, a kernel's or a simulator's:
 whether a plain page map gives them.
 
 Usage: radixvm audit [--overlapping [--kernel [--moving] |
-                                     [--given IN] [--order OUT]] |
+                                     [--strict] [--given IN] [--order OUT]] |
                      [--strict] [--all]] [--any-place] [--brief] [FILE]
 
 Options:
   --any-place    an mmap without f may have any place, or be enomem. Its pages
                  must be valid and free; POSIX leaves the place to a system
-  --strict       noframe, nomemory, and enomem despite room are illegal
+  --strict       noframe, nomemory, and enomem despite room are illegal; with
+                 --overlapping, each call has one moment, and --kernel isn't
+                 tried where that fails
   --all          goes on after a wrong reply, and writes each
   --overlapping  the text is a history: calls with the times of their begin and
                  end (invocation and response)
@@ -370,6 +372,10 @@ isn't counted. The verdict, by linearizability, is one of these:
                        left, and the lines of all others, if at most 12. If a
                        call still waits at the end of the text, no order is not
                        printed, only legal or undecided
+  legal by --kernel    after no order and its lines: the rule that kernels keep
+                       (below) permits the calls; an order by it was checked
+  legal by --kernel --moving: did threads move?
+                       the same, if threads may move between cores
   undecided N          the search found no order up to the end of line N's
                        call, or met its limit there: 300,000 configurations.
                        There may be an order
@@ -405,8 +411,8 @@ The second writes illegal 4: replied 40, due 41, and 0x10000-0x11000 rw- anon.
 
 Status: 0 if all replies are legal; 1 if one isn't, or the calls have no order;
 2 for a bad text or bad arguments; 3 if reading, writing or memory failed; 4 if
-it is undecided. After an error (help errors) nothing is written. The text is
-held in memory.
+it is undecided; 5 if the calls have no order, but are legal by --kernel. After
+an error (help errors) nothing is written. The text is held in memory.
 ";
 
 /// What `litmus` reads and writes.

@@ -408,6 +408,8 @@ Status, of all commands:
   2    a bad text or bad arguments
   3    the system failed: reading, writing, memory (also setup S6) or a thread
   4    undecided: audit found no order, or litmus has a clause that is open
+  5    no, but yes by a wider rule: audit found no order of calls that overlap,
+       and they are legal by --kernel
   141  the reader of standard output has gone, as in radixvm run | head.
        Nothing is reported then
 ";

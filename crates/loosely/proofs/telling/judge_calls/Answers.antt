@@ -1,24 +1,26 @@
 use Rattle.std.proofs.Common.{Err, ap, refl, sym, subst, ◌∙◌}
 use Rattle.trace_io.proofs.IoLemmas.{tells_unread, tells_want}
 use Rattle.trace_io.proofs.LineLemmas.{reads_map}
-use Rattle.overlapping.specs.Ends.{JudgementEnds}
 use Rattle.orders_text.specs.declared.faults.HistoryFault.TheVariants.{Io}
-use Rattle.overlapping.proofs.EndLemmas.{io_back, io_of, stopped, unmade}
-use Rattle.overlapping.proofs.overlapping.judge_overlapping.Goals as goal
+use Rattle.overlapping.proofs.EndLemmas.{io_back, io_of}
+use Rattle.loosely.specs.Besides.{CallsEnd}
+use Rattle.loosely.proofs.BesidesLemmas.{stopped, unmade}
+use Rattle.loosely.proofs.telling.judge_calls.Goals as goal
 
 pub returns-in-Ok-read_all-clause-ends : goal.returns-in-Ok-read_all-clause-ends
 returns-in-Ok-read_all-clause-ends g c =
     let old = g.W.Sink.contents c.args.writer.now in
     let new = g.W.Sink.contents c.judge_out.new.writer in
     reads_map _ _ _ _ c.in-Ok-read_all.ensures.text
-    (λ xs ys k e. subst (λ i. JudgementEnds c.args.any_place i old new c.judge_out.result) (c.as_slice.ensures.value ∙ sym e) c.judge_out.ensures.ends)
+    (λ xs ys k e. subst (λ i. CallsEnd c.args.manner.is_alone c.args.manner.any_place i old new c.judge_out.result)
+    (c.as_slice.ensures.value ∙ sym e) c.judge_out.ensures.ends)
 
 pub returns-in-Err-clause-ends : goal.returns-in-Err-clause-ends
-returns-in-Err-clause-ends g c = stopped _ _ c.args.any_place (g.W.Sink.contents c.args.writer.now) c.in-Err.fault
+returns-in-Err-clause-ends g c = stopped _ _ c.args.manner.is_alone c.args.manner.any_place (g.W.Sink.contents c.args.writer.now) c.in-Err.fault
     (λ e. c.in-Err.ensures.write (ap Err e)) c.in-Err.ensures.kept
 
 pub returns-in_default-clause-ends : goal.returns-in_default-clause-ends
-returns-in_default-clause-ends g c = unmade _ c.args.any_place _
+returns-in_default-clause-ends g c = unmade _ c.args.manner.is_alone c.args.manner.any_place _
 
 pub returns-in-Ok-read_all-clause-told : goal.returns-in-Ok-read_all-clause-told
 returns-in-Ok-read_all-clause-told g c =
