@@ -11,7 +11,7 @@ import sys
 TOP = pathlib.Path(__file__).resolve().parent.parent
 PAGE = TOP / "docs/ARCHITECTURE.md"
 MARK = "<!-- bench/crates.py writes what is below. -->"
-MOST_CRATES = 80
+MOST_CRATES = 81
 MOST_BYTES = 120
 MOST_CODE = 1_500
 
@@ -21,7 +21,7 @@ LARGER = {
     "litmus_report": "49 lines too many, until its C is a crate of its own",
     "live_pages": "20 lines too many, until the set of free frames goes to frames",
     "order_search": "a search whose insides are to be planned anew",
-    "word_import": "40 lines too many, until replies are a crate of their own",
+    "word_import": "80 lines too many, until replies are a crate of their own",
 }
 
 GHOST = re.compile(r"ghost\b|(pub )?(requires|ensures|decreases|invariant|terminates)\b")

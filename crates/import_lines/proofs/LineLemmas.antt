@@ -19,7 +19,7 @@ use Rattle.import_steps.specs.Taking.{last_name, with_name}
 use Rattle.import_lines.specs.declared.lines.Entry.{Entry}
 use Rattle.import_lines.specs.declared.lines.Kind.{Kind}
 use Rattle.import_lines.specs.declared.lines.Kind.TheVariants.{Pages, Unmap, Protect, Breaks, Clears, Ends, Fails, Unread, Other, Rare}
-use Rattle.import_steps.specs.declared.names.Name.{Name}
+use Rattle.import_maps.specs.declared.names.Name.{Name}
 use Rattle.import_lines.specs.declared.rares.Seldom.{Seldom}
 
 pub map_long : {X Y : Type 0} (f : X → Y) (xs : List X) → length xs ≡ length (map f xs)

@@ -2,7 +2,8 @@
 
 use crate::line::Line;
 use import_forms::said::Said;
-use import_steps::names::{Name, name_at, note_name};
+use import_maps::names::Name;
+use import_steps::names::{name_at, note_name};
 use std::alloc::{AllocError, Global};
 use std::marker::Model;
 

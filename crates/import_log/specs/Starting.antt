@@ -7,7 +7,7 @@ use Rattle.vm_base.specs.declared.requests.Request.{Request}
 use Rattle.vm_base.specs.declared.requests.Request.TheVariants.{Mmap}
 use Rattle.import_steps.specs.Taking.{SoFar, file_place, files_with, last_name, no_name, nothing_taken, reaches}
 use Rattle.import_steps.specs.Taking.{with_files, with_heap_end, with_name, with_names}
-use Rattle.import_steps.specs.declared.names.Name.{Name}
+use Rattle.import_maps.specs.declared.names.Name.{Name}
 use Rattle.import_log.specs.Entries.{counted, no_entries}
 use Rattle.import_lines.specs.Listed.{Entry, entry_said, kind_named}
 use Rattle.import_log.specs.declared.entries.Entries.{Entries}

@@ -9,8 +9,9 @@ ghost use Rattle.import_log.specs.Starting.{shown_name, start_of, with_request, 
 
 use crate::entries::{Entered, Entries};
 use import_lines::listed::{Listed, MappingKind, kind_of, read_listed};
-use import_steps::names::{NO_NAME, Name, note_name};
-use import_steps::steps::TraceRequest;
+use import_maps::names::{NO_NAME, Name};
+use import_maps::steps::TraceRequest;
+use import_steps::names::note_name;
 use import_steps::taking::{ADDRESS_END, Taken, reaches, use_file};
 use std::alloc::{AllocError, Global};
 use trace_io::lines::front_line;

@@ -1,3 +1,2 @@
 mod NameLemmas
 mod TakingLemmas
-mod StepLemmas

@@ -2,7 +2,7 @@
 use Rattle.std.specs.Prelude.{ℕ, ◌+◌}
 use Rattle.import_steps.specs.Losses.{lost_lines, no_losses, with_lost}
 use Rattle.import_steps.specs.declared.counts.LineCounts.{LineCounts}
-use Rattle.import_steps.specs.declared.taking.LineChange.TheVariants.{Heap, Move, File, Key, Shared}
+use Rattle.import_steps.specs.declared.taking.LineChange.TheVariants.{Heap, Move, File, Key, Shared, Clear}
 use Rattle.import_steps.specs.declared.taking.Reason.TheVariants as For
 use Rattle.import_steps.specs.declared.taking.Fate.{Fate}
 use Rattle.import_steps.specs.declared.taking.Fate.TheVariants.{Kept, Changed, Left}
@@ -15,6 +15,7 @@ no_counts = record {
   files = 0;
   keyed = 0;
   shared = 0;
+  cleared = 0;
   half = 0;
   failed = 0;
   elsewhere = 0;
@@ -29,7 +30,7 @@ no_counts = record {
 
 -- how many lines were changed, and how many left out
 abbrev pub changed_lines : LineCounts → ℕ
-changed_lines c = c.heap + c.moves + c.files + c.keyed + c.shared
+changed_lines c = c.heap + c.moves + c.files + c.keyed + c.shared + c.cleared
 
 -- how many lines are left out, whatever the reason
 abbrev pub left_lines : LineCounts → ℕ
@@ -48,6 +49,7 @@ begun_anew c = record {
   files = 0;
   keyed = 0;
   shared = 0;
+  cleared = 0;
   half = c.half;
   failed = c.failed;
   elsewhere = c.elsewhere;
@@ -68,6 +70,7 @@ counted c (Changed Move) = record c { moves = c.moves + 1 }
 counted c (Changed File) = record c { files = c.files + 1 }
 counted c (Changed Key) = record c { keyed = c.keyed + 1 }
 counted c (Changed Shared) = record c { shared = c.shared + 1 }
+counted c (Changed Clear) = record c { cleared = c.cleared + 1 }
 counted c (Left For.Half) = record c { half = c.half + 1 }
 counted c (Left For.Failed) = record c { failed = c.failed + 1 }
 counted c (Left For.Elsewhere) = record c { elsewhere = c.elsewhere + 1 }

@@ -1,6 +1,5 @@
 pub mod Names
 pub mod Shared
-pub mod Steps
 pub mod Taking
 pub mod Losses
 pub mod Counts

@@ -1,6 +1,6 @@
 -- What a call becomes: requests of a trace, a change, or a reason for which it is left out.
-use Rattle.std.specs.Prelude.{ℕ, ◌+◌, ◌-◌, ◌*◌, ◌^◌, ◌/◌, ◌%◌, Bool, true, false, ◌||◌, List, [], ◌∷◌, ◌++◌, Option, None, Some, if◌then◌else◌, ◌==◌}
-use Rattle.std.specs.Prelude.{nat_lt, nat_le, drop, length, map, max, slice_index_or, slice_set}
+use Rattle.std.specs.Prelude.{ℕ, ◌+◌, ◌-◌, ◌*◌, ◌^◌, ◌/◌, ◌%◌, Bool, true, false, ◌||◌, ◌&&◌, List, [], ◌∷◌, ◌++◌, Option, None, Some, if◌then◌else◌, ◌==◌}
+use Rattle.std.specs.Prelude.{nat_lt, nat_le, drop, filter, length, map, max, min, slice_index_or, slice_set}
 use Rattle.std.specs.Str.{bytes_eq}
 use Rattle.vm_base.specs.declared.rights.Prot.{Prot}
 use Rattle.vm_base.specs.declared.requests.Flags.{Flags}
@@ -9,13 +9,15 @@ use Rattle.vm_base.specs.declared.requests.Request.TheVariants.{Mmap, Munmap, Mp
 use Rattle.import_forms.specs.declared.said.Lost.TheVariants as Lose
 use Rattle.import_forms.specs.declared.said.Said.{Said}
 use Rattle.import_forms.specs.declared.said.Said.TheVariants as Says
+use Rattle.import_maps.specs.Ranges.{between, bytes_of, parts_of, ranges_of}
 use Rattle.import_steps.specs.Shared.{len_of, memory_name}
+use Rattle.import_maps.specs.declared.ranges.MappedRange.{MappedRange}
 use Rattle.import_steps.specs.declared.shared.SharedSegment.{SharedSegment}
-use Rattle.import_steps.specs.declared.names.Name.{Name}
-use Rattle.import_steps.specs.declared.steps.TraceRequest.{TraceRequest}
+use Rattle.import_maps.specs.declared.names.Name.{Name}
+use Rattle.import_maps.specs.declared.steps.TraceRequest.{TraceRequest}
 use Rattle.import_steps.specs.declared.taking.FileUse.{FileUse}
 use Rattle.import_steps.specs.declared.taking.Taken.{Taken}
-use Rattle.import_steps.specs.declared.taking.LineChange.TheVariants.{Heap, Move, File, Key, Shared}
+use Rattle.import_steps.specs.declared.taking.LineChange.TheVariants.{Heap, Move, File, Key, Shared, Clear}
 use Rattle.import_steps.specs.declared.taking.Reason.TheVariants as For
 use Rattle.import_steps.specs.declared.taking.Fate.{Fate}
 use Rattle.import_steps.specs.declared.taking.Fate.TheVariants.{Kept, Changed, Left}
@@ -201,27 +203,107 @@ heap_after s thread (Some old) new = heap_moved (with_heap_end s new) thread old
 abbrev pub after_break : SoFar → ℕ → ℕ → SoFar × Fate
 after_break s thread to = if nat_lt (2 ^ 47) to then (s, Left For.Unread) else heap_after s thread s.heap_end (rounded to)
 
+-- ---- ranges that are mapped once more
+
+-- what is mapped of the addresses from one on, up to another
+abbrev pub parts_at : SoFar → ℕ → ℕ → List MappedRange
+parts_at s from end = parts_of from end (ranges_of s.steps)
+
+-- all of these addresses are mapped
+abbrev pub is_whole : ℕ → ℕ → List MappedRange → Bool
+is_whole from end parts = nat_lt from end && (bytes_of parts == end - from)
+
+-- the name of the file with this number
+abbrev pub name_of_file : List (List ℕ × ℕ) → ℕ → List ℕ
+name_of_file files file = (slice_index_or files file ([], 0)).0
+
+-- a mapping with the rights, the flags and the file of a range
+abbrev pub mapped_as : SoFar → ℕ → MappedRange → SoFar
+mapped_as s thread r = if r.flags.anon
+    then asked_of s thread r.name (Mmap r.addr r.len r.prot r.flags 0 r.off)
+    else (after_file s thread (name_of_file s.files r.file) r.addr r.len r.prot r.flags r.off).0
+
+abbrev pub mapped_all : SoFar → ℕ → List MappedRange → SoFar
+mapped_all s thread [] = s
+mapped_all s thread (r ∷ rs) = mapped_all (mapped_as s thread r) thread rs
+
+-- the range at its new place, where the first of all its pages was here and is there
+abbrev pub at_place : ℕ → ℕ → MappedRange → MappedRange
+at_place from to r = record {
+  addr = min (to + (r.addr - from)) (2 ^ 64 - 1);
+  len = r.len;
+  prot = r.prot;
+  flags = r.flags;
+  file = r.file;
+  off = r.off;
+  name = r.name;
+}
+
+-- these at their new places
+abbrev pub placed_all : SoFar → ℕ → ℕ → ℕ → List MappedRange → SoFar
+placed_all s thread from to [] = s
+placed_all s thread from to (r ∷ rs) = placed_all (mapped_as s thread (at_place from to r)) thread from to rs
+
+-- the pages that come behind those of a range, which ends here, and go on in its file
+abbrev pub grown_from : ℕ → ℕ → MappedRange → MappedRange
+grown_from end more r = between r end more
+
+-- these, each grown by so many bytes
+abbrev pub grown_all : SoFar → ℕ → ℕ → ℕ → ℕ → ℕ → List MappedRange → SoFar
+grown_all s thread from to end more [] = s
+grown_all s thread from to end more (r ∷ rs) =
+    grown_all (mapped_as s thread (at_place from to (grown_from end more r))) thread from to end more rs
+
+-- The pages of one place are at another, up to this length, and more of them come behind, which are as the last was.
+abbrev pub put_there : SoFar → ℕ → ℕ → ℕ → ℕ → ℕ → List MappedRange → List MappedRange → SoFar
+put_there s thread from to old new parts last =
+    let moved = placed_all s thread from to parts in
+    if nat_lt old new then grown_all moved thread from to (from + old) (new - old) last else moved
+
 -- a mapping at this address had so many bytes, in whole pages, and has others
-abbrev pub resized : SoFar → ℕ → ℕ → ℕ → ℕ → SoFar × Fate
-resized s thread addr old new = if nat_lt old new then (asked_by s thread (in_place (addr + old) (new - old)), Changed Move)
+abbrev pub resized : SoFar → ℕ → ℕ → ℕ → ℕ → List MappedRange → SoFar × Fate
+resized s thread addr old new last = if nat_lt old new then (grown_all s thread addr addr (addr + old) (new - old) last, Changed Move)
     else if nat_lt new old then (asked_by s thread (Munmap (addr + new) (old - new)), Changed Move)
     else (s, Left For.Still)
 
+-- where pages went that are unmapped
+abbrev pub gone_to : ℕ → ℕ → Name
+gone_to to len = record { from = to; len = len }
+
+-- It stays at its place, or goes to another. What it has there is as it was: rights, flags and file.
+abbrev pub moved : SoFar → ℕ → ℕ → ℕ → ℕ → ℕ → List MappedRange → List MappedRange → SoFar × Fate
+moved s thread from old to new parts last = if from == to then resized s thread from old new last
+    else (put_there (asked_of s thread (gone_to to new) (Munmap from old)) thread from to old new parts last, Changed Move)
+
 -- its old place has new pages
-abbrev pub left_behind : SoFar → ℕ → ℕ → ℕ → ℕ → ℕ → SoFar × Fate
-left_behind s thread from old to new = (asked_by (asked_by s thread (in_place from old)) thread (in_place to new), Changed Move)
+abbrev pub left_behind : SoFar → ℕ → ℕ → ℕ → ℕ → ℕ → List MappedRange → List MappedRange → SoFar × Fate
+left_behind s thread from old to new parts last = (put_there (mapped_all s thread parts) thread from to old new parts last, Changed Move)
 
--- it stays at its place, or goes to another
-abbrev pub moved : SoFar → ℕ → ℕ → ℕ → ℕ → ℕ → SoFar × Fate
-moved s thread from old to new = if from == to then resized s thread from old new
-    else (asked_by (asked_by s thread (Munmap from old)) thread (in_place to new), Changed Move)
+-- of lengths in whole pages, of a place that is mapped
+abbrev pub move_of : SoFar → ℕ → ℕ → ℕ → ℕ → ℕ → Bool → SoFar × Fate
+move_of s thread from old to new stays =
+    let parts = parts_at s from (from + min old new) in
+    let last = parts_at s (from + old - 4096) (from + old) in
+    if is_whole from (from + old) (parts_at s from (from + old))
+    then (if stays then left_behind s thread from old to new parts last else moved s thread from old to new parts last)
+    else (s, Left For.Unmapped)
 
--- mremap is an unmapping and a mapping, or two mappings, where the old place stays mapped
+-- mremap is an unmapping and mappings, or mappings alone, where the old place stays mapped
 abbrev pub after_move : SoFar → ℕ → ℕ → ℕ → ℕ → ℕ → Bool → SoFar × Fate
 after_move s thread from old to new stays =
     if nat_lt (2 ^ 47) from || nat_lt (2 ^ 47) old || nat_lt (2 ^ 47) to || nat_lt (2 ^ 47) new then (s, Left For.Unread)
-    else if stays then left_behind s thread from (rounded old) to (rounded new)
-    else moved s thread from (rounded old) to (rounded new)
+    else move_of s thread from (rounded old) to (rounded new) stays
+
+-- the private ones
+abbrev pub private_of : List MappedRange → List MappedRange
+private_of rs = filter (λ r. r.flags.private) rs
+
+-- MADV_DONTNEED maps private pages once more, as they were; those that are shared keep their bytes
+abbrev pub after_clear : SoFar → ℕ → ℕ → ℕ → SoFar × Fate
+after_clear s thread addr len = if nat_lt (2 ^ 47) addr || nat_lt (2 ^ 47) len then (s, Left For.Unread)
+    else (let parts = parts_at s addr (addr + rounded len) in
+    if is_whole addr (addr + rounded len) parts then (mapped_all s thread (private_of parts), Changed Clear)
+    else (s, Left (For.Lost Lose.Drops)))
 
 -- ---- shared memory
 
@@ -298,7 +380,7 @@ abbrev pub after_said : SoFar → SoFar → ℕ → List ℕ → Said → SoFar 
 after_said start s thread name (Says.Asks request) = after_request s thread name request
 after_said start s thread name (Says.Breaks to) = after_break s thread to
 after_said start s thread name (Says.Moves from old to new stays) = after_move s thread from old to new stays
-after_said start s thread name (Says.Clears addr len) = (s, Left (For.Lost Lose.Drops))
+after_said start s thread name (Says.Clears addr len) = after_clear s thread addr len
 after_said start s thread name (Says.Makes child shares joins) = (s, Left For.Other)
 after_said start s thread name Says.Begins = (start, Left For.Begins)
 after_said start s thread name (Says.Keyed request) = keyed_with s thread request

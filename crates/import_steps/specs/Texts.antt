@@ -8,8 +8,8 @@ use Rattle.trace_text.specs.Printing.{address_of}
 use Rattle.trace_text.specs.Spelling.{letter, rights_text}
 use Rattle.import_steps.specs.Names.{bare, name_shown}
 use Rattle.import_steps.specs.Taking.{SoFar}
-use Rattle.import_steps.specs.declared.names.Name.{Name}
-use Rattle.import_steps.specs.declared.steps.TraceRequest.{TraceRequest}
+use Rattle.import_maps.specs.declared.names.Name.{Name}
+use Rattle.import_maps.specs.declared.steps.TraceRequest.{TraceRequest}
 
 -- an address and a length in bytes, each behind a space
 abbrev pub range_text : ℕ → ℕ → List ℕ
@@ -62,9 +62,17 @@ range_note name (Load addr) = []
 range_note name (Store addr value) = []
 range_note name (Fetch addr) = []
 
--- before a request of pages that a file of some name should back
+-- a comment that says where pages went that are unmapped
+abbrev pub gone_note : ℕ → ℕ → ℕ → ℕ → List ℕ
+gone_note addr len to new = codes "# moved" ++ range_text addr len ++ range_text to new ++ codes "\n"
+
+abbrev pub note_of : List ℕ → Name → Request → List ℕ
+note_of names name (Munmap addr len) = gone_note addr len name.from name.len
+note_of names name request = range_note (take name.len (drop name.from names)) request
+
+-- before a request of pages that a file of some name should back, or of some that are at another place now
 abbrev pub note_before : List ℕ → Name → Request → List ℕ
-note_before names name request = if name.len == 0 then [] else range_note (take name.len (drop name.from names)) request
+note_before names name request = if name.len == 0 then [] else note_of names name request
 
 -- a request with its comment, if it has one
 abbrev pub step_text : List ℕ → TraceRequest → List ℕ

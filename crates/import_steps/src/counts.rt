@@ -12,7 +12,7 @@ pub struct LineCounts {
     pub kept: u64,
     /// `brk`, as `mmap` or `munmap`.
     pub heap: u64,
-    /// `mremap`, as `munmap` and `mmap`.
+    /// `mremap`, as `munmap` and `mmap`s.
     pub moves: u64,
     /// Mappings of files, as mappings of anonymous pages.
     pub files: u64,
@@ -20,6 +20,8 @@ pub struct LineCounts {
     pub keyed: u64,
     /// `shmat` and `shmdt`, as `mmap` of a shared file and `munmap`.
     pub shared: u64,
+    /// `madvise` with `MADV_DONTNEED`, as `mmap`s.
+    pub cleared: u64,
     /// Halves of calls that act in another line.
     pub half: u64,
     /// Calls that failed.
@@ -32,7 +34,7 @@ pub struct LineCounts {
     pub unread: u64,
     /// `brk` and `mremap` by which no page came or went.
     pub still: u64,
-    /// `mprotect` of pages that no call mapped before.
+    /// `mprotect` or `mremap` of pages that no call mapped before.
     pub unmapped: u64,
     /// Calls that change the address space in a way that no trace has.
     pub lost: Losses,
@@ -54,6 +56,7 @@ impl LineCounts {
             files: 0,
             keyed: 0,
             shared: 0,
+            cleared: 0,
             half: 0,
             failed: 0,
             elsewhere: 0,
@@ -72,7 +75,7 @@ impl LineCounts {
         requires { total self.now < 2 ^ 64 }
         ensures { result ≡ changed_lines self.now }
     {
-        self.heap + self.moves + self.files + self.keyed + self.shared
+        self.heap + self.moves + self.files + self.keyed + self.shared + self.cleared
     }
 
     /// How many lines were left out.
@@ -148,6 +151,7 @@ impl LineCounts {
             Fate::Changed(LineChange::File) => counts.files += 1,
             Fate::Changed(LineChange::Key) => counts.keyed += 1,
             Fate::Changed(LineChange::Shared) => counts.shared += 1,
+            Fate::Changed(LineChange::Clear) => counts.cleared += 1,
             Fate::Left(reason) => return self.leave(reason),
         }
         counts

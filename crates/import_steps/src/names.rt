@@ -4,6 +4,7 @@ ghost use Rattle.std.specs.Str.{bytes_eq};
 ghost use Rattle.import_steps.specs.Names.{bare, byte_shown, digit, is_plain, name_shown, without_sign};
 ghost use Rattle.import_steps.specs.Taking.{last_name, with_name};
 
+use import_maps::names::Name;
 use std::alloc::AllocError;
 
 /// How many bytes show a file's name at most, except for the two dots after it.
@@ -11,18 +12,6 @@ pub const NAME: usize = 200;
 
 /// How many do beside a range.
 pub const NAME_OF_RANGE: usize = 180;
-
-/// Where a name stands among several, one after another.
-#[derive(Clone, Copy)]
-pub struct Name {
-    /// How many bytes stand before it.
-    pub from: usize,
-    /// How many it has: 0 where there is none.
-    pub len: usize,
-}
-
-/// No name.
-pub const NO_NAME: Name = Name { from: 0, len: 0 };
 
 // Tells whether the names end with this one.
 fn ends(names: &[u8], name: &[u8]) -> bool

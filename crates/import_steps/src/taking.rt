@@ -1,17 +1,19 @@
 //! What a call becomes: requests of a trace, a change, or a reason for which it is left out.
 ghost use Rattle.std.specs.Prelude.{◌≡◌, ◌≤◌, ◌^◌, IfOk, OnOk, Some, length, map};
 ghost use Rattle.std.specs.Str.{bytes_eq};
-ghost use Rattle.import_steps.specs.Taking.{after_break, after_file, after_mapping, after_move, after_request, after_said, anonymous, asked_by};
+ghost use Rattle.import_steps.specs.Taking.{after_break, after_file, after_mapping, after_request, after_said, anonymous, asked_by};
 ghost use Rattle.import_steps.specs.Taking.{asked_named, asked_of};
 ghost use Rattle.import_steps.specs.Taking.{file_place, files_with, heap_moved, in_place, nothing_taken, place_named, place_of};
 ghost use Rattle.import_steps.specs.Shared.{len_of};
-ghost use Rattle.import_steps.specs.Taking.{as_shared, attached_with, detached_with, in_shared, left_behind, reaches, resized, rounded, so_far, use_of, widened};
+ghost use Rattle.import_steps.specs.Taking.{as_shared, attached_with, detached_with, in_shared, reaches, rounded, so_far, use_of, widened};
 ghost use Rattle.import_steps.specs.Taking.{keyed_with, sized_with};
 
-use crate::names::{NO_NAME, Name, note_name};
+use crate::moving::{take_clear, take_move};
+use crate::names::note_name;
 use crate::shared::{SharedSegment, len_of, memory_name};
-use crate::steps::{TraceRequest, TraceRequests};
 use import_forms::said::{Lost, Said};
+use import_maps::names::{NO_NAME, Name};
+use import_maps::steps::{TraceRequest, TraceRequests};
 use std::alloc::{AllocError, Global};
 use vm_base::limits::{FILE_BYTES, FILE_COUNT};
 use vm_base::{CoreId, Flags, Prot, Request};
@@ -68,7 +70,7 @@ pub struct Mapping {
 pub enum LineChange {
     /// `brk`, as `mmap` or `munmap` of the pages between.
     Heap,
-    /// `mremap`, as `munmap` and `mmap` of anonymous pages: their bytes are lost.
+    /// `mremap`, as `munmap` and `mmap`s: bytes of private pages are lost.
     Move,
     /// A mapping of a file, as one of anonymous pages: the file is the 17th or a later one, or the mapping reaches
     /// past its first 1,048,576 bytes.
@@ -77,6 +79,8 @@ pub enum LineChange {
     Key,
     /// `shmat` and `shmdt`, as `mmap` of a shared file and `munmap`.
     Shared,
+    /// `madvise` with `MADV_DONTNEED`, as `mmap` of the private pages, as they were mapped.
+    Clear,
 }
 
 /// Why a line is left out.
@@ -92,7 +96,7 @@ pub enum Reason {
     Unread,
     /// `brk` or `mremap` by which no page comes or goes.
     Still,
-    /// `mprotect` of pages that no call mapped before.
+    /// `mprotect` or `mremap` of pages that no call mapped before.
     Unmapped,
     /// A call that changes the address space in a way that no trace has.
     Lost(Lost),
@@ -133,8 +137,8 @@ const ANONYMOUS: Flags = Flags {
     anon: true,
 };
 
-// The number rounded up to whole pages.
-fn rounded(number: u64) -> u64
+/// The number rounded up to whole pages.
+pub(crate) fn rounded(number: u64) -> u64
     requires { number ≤ 2 ^ 47 }
     ensures value { result ≡ rounded number }
     ensures small { result ≤ 2 ^ 47 }
@@ -196,8 +200,13 @@ fn ask_named(
     ask_of(taken, thread, name, request)
 }
 
-// Adds a request of this thread, of pages whose file's name stands here.
-fn ask_of(taken: &mut Taken, thread: u64, name: Name, request: Request) -> Result<(), AllocError>
+/// Adds a request of this thread, of pages whose file's name stands here.
+pub(crate) fn ask_of(
+    taken: &mut Taken,
+    thread: u64,
+    name: Name,
+    request: Request,
+) -> Result<(), AllocError>
     ensures { OnOk result (so_far taken.new ≡ asked_of (so_far taken.old) thread name request) }
 {
     let place = place_of(taken.threads.as_slice(), thread);
@@ -431,89 +440,6 @@ fn take_break(taken: &mut Taken, thread: u64, to: u64) -> Result<Fate, AllocErro
     }
 }
 
-// Adds what became of pages that grew or shrank where they are.
-fn take_resized(
-    taken: &mut Taken,
-    thread: u64,
-    from: u64,
-    old: u64,
-    new: u64,
-) -> Result<Fate, AllocError>
-    requires place { from ≤ 2 ^ 47 }
-    requires old { old ≤ 2 ^ 47 }
-    requires new { new ≤ 2 ^ 47 }
-    ensures { IfOk result (λ fate. (so_far taken.new, fate) ≡ resized (so_far taken.old) thread from old new) }
-{
-    if old < new {
-        ask_pages(taken, thread, from + old, new - old)?;
-        return Ok(Fate::Changed(LineChange::Move));
-    }
-    if new < old {
-        ask(
-            taken,
-            thread,
-            Request::Munmap {
-                addr: from + new,
-                len: old - new,
-            },
-        )?;
-        return Ok(Fate::Changed(LineChange::Move));
-    }
-    Ok(Fate::Left(Reason::Still))
-}
-
-// Adds what became of pages of which new ones have the place, and which are at another one now.
-fn take_left(
-    taken: &mut Taken,
-    thread: u64,
-    from: u64,
-    old: u64,
-    to: u64,
-    new: u64,
-) -> Result<Fate, AllocError>
-    ensures { IfOk result (λ fate. (so_far taken.new, fate) ≡ left_behind (so_far taken.old) thread from old to new) }
-{
-    ask_pages(taken, thread, from, old)?;
-    ask_pages(taken, thread, to, new)?;
-    Ok(Fate::Changed(LineChange::Move))
-}
-
-// Adds what became of pages that were moved, or grew or shrank.
-fn take_move(
-    taken: &mut Taken,
-    thread: u64,
-    from: u64,
-    old: u64,
-    to: u64,
-    new: u64,
-    stays: bool,
-) -> Result<Fate, AllocError>
-    ensures { IfOk result (λ fate. (so_far taken.new, fate)
-        ≡ after_move (so_far taken.old) thread from old to new stays) }
-{
-    if from > ADDRESS_END || old > ADDRESS_END || to > ADDRESS_END || new > ADDRESS_END {
-        return Ok(Fate::Left(Reason::Unread));
-    }
-    let old = rounded(old);
-    let new = rounded(new);
-    if stays {
-        return take_left(taken, thread, from, old, to, new);
-    }
-    if from == to {
-        return take_resized(taken, thread, from, old, new);
-    }
-    ask(
-        taken,
-        thread,
-        Request::Munmap {
-            addr: from,
-            len: old,
-        },
-    )?;
-    ask_pages(taken, thread, to, new)?;
-    Ok(Fate::Changed(LineChange::Move))
-}
-
 // Notes that the shared memory of this number has this many bytes.
 fn take_size(taken: &mut Taken, number: u64, len: u64) -> Result<Fate, AllocError>
     ensures { IfOk result (λ fate. (so_far taken.new, fate) ≡ sized_with (so_far taken.old) number len) }
@@ -666,13 +592,13 @@ pub fn take(
             to,
             new,
             stays,
-        } => take_move(taken, thread, from, old, to, new, stays),
+        } => take_move(alloc, taken, thread, from, old, to, new, stays),
         Said::Begins => {
             *taken = start.copy(alloc)?;
             Ok(Fate::Left(Reason::Begins))
         }
         Said::Makes { .. } | Said::Ends | Said::Other => Ok(Fate::Left(Reason::Other)),
-        Said::Clears { .. } => Ok(Fate::Left(Reason::Lost(Lost::Drops))),
+        Said::Clears { addr, len } => take_clear(alloc, taken, thread, addr, len),
         Said::Keyed(request) => take_keyed(taken, thread, request),
         Said::Sizes { number, len } => take_size(taken, number, len),
         Said::Attaches { number, addr, prot } => {

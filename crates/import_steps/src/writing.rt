@@ -5,12 +5,13 @@ ghost use Rattle.trace_text.specs.Printing.{address_of};
 ghost use Rattle.trace_text.specs.Spelling.{rights_text};
 ghost use Rattle.import_steps.specs.Taking.{so_far, use_of};
 ghost use Rattle.import_steps.specs.Names.{bare, name_shown};
-ghost use Rattle.import_steps.specs.Texts.{asked_text, backing_text, first_line, imported_text, kind_text, note_before, range_note, range_text};
+ghost use Rattle.import_steps.specs.Texts.{asked_text, backing_text, first_line, gone_note, imported_text, kind_text, note_before, range_note, range_text};
 ghost use Rattle.import_steps.specs.Texts.{step_line, step_text, use_line, use_lines, use_text};
 
-use crate::names::{NAME, NAME_OF_RANGE, Name, bare, name_at, push_name};
-use crate::steps::{TraceRequest, TraceRequests, front_step};
+use crate::names::{NAME, NAME_OF_RANGE, bare, name_at, push_name};
 use crate::taking::{FileUse, Taken};
+use import_maps::names::Name;
+use import_maps::steps::{TraceRequest, TraceRequests, front_step};
 use std::alloc::{AllocError, Global};
 use trace_text::{LineText, push_address, push_count, push_letter, push_number, push_rights};
 use vm_base::{CoreId, Flags, Request};
@@ -209,6 +210,19 @@ fn push_range_note(all: &mut Vec<u8>, name: &[u8], request: Request) -> Result<(
     Ok(())
 }
 
+// Appends a comment that tells where pages went that are unmapped.
+fn push_gone(all: &mut Vec<u8>, addr: u64, len: u64, to: u64, new: u64) -> Result<(), AllocError>
+    ensures { OnOk result (all.new.items ≡ all.old.items ++ gone_note addr len to new) }
+{
+    let mut text = LineText::new();
+    text.push_str("# moved");
+    push_range(&mut text, addr, len);
+    push_range(&mut text, to, new);
+    text.push_str("\n");
+    all.extend_from_slice(text.as_str().as_bytes())?;
+    Ok(())
+}
+
 // Appends the comment of a request, if it has one.
 fn push_note(
     all: &mut Vec<u8>,
@@ -221,7 +235,12 @@ fn push_note(
     if name.len == 0 {
         return Ok(());
     }
-    push_range_note(all, name_at(names, name), request)
+    match request {
+        Request::Munmap { addr, len } => {
+            push_gone(all, addr, len, name.from as u64, name.len as u64)
+        }
+        _ => push_range_note(all, name_at(names, name), request),
+    }
 }
 
 // Appends the line of a request, after its comment.

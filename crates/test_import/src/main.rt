@@ -130,13 +130,14 @@ fn tell_entries<W: Write>(out: &mut W, name: &str, entries: &Entries) {
 // Prints what became of a log's lines.
 fn tell_counts<W: Write>(out: &mut W, name: &str, counts: &LineCounts) {
     let (kept, heap, moves, files) = (counts.kept, counts.heap, counts.moves, counts.files);
-    let (half, failed, elsewhere) = (counts.half, counts.failed, counts.elsewhere);
+    let (cleared, half) = (counts.cleared, counts.half);
+    let (failed, elsewhere) = (counts.failed, counts.elsewhere);
     let (before, unread, still) = (counts.before, counts.unread, counts.still);
     let other = counts.other.saturating_add(counts.begins);
     let drops = counts.lost.drops;
     let _ = writeln!(
         out,
-        "{name} log: kept {kept}, heap {heap}, moves {moves}, files {files}, half {half}, failed {failed}, elsewhere {elsewhere}"
+        "{name} log: kept {kept}, heap {heap}, moves {moves}, files {files}, cleared {cleared}, half {half}, failed {failed}, elsewhere {elsewhere}"
     );
     let _ = writeln!(
         out,

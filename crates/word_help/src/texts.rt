@@ -168,13 +168,15 @@ Lines with -t, -tt, -ttt, -r, -T, -i, -n, -Y, -X raw and -X verbose are read.
 
 Several FILEs are one log. strace -ff writes one for each thread, LOG.NUMBER:
 each line is of the thread with the number after its file's last dot, if no
-line of the file names a thread; so it is in a FILE alone. Give strace -ttt,
-too: lines go in the order of their times, which are those at which calls
-began. Refused, with status 2, are several FILEs of which some call has no time
-with microseconds (strace -t has none), or one before that of a line above it
-(strace -tt at midnight): where it belongs isn't known. Lines that say nothing,
-before the first time of their file, come first, in the order of the FILEs, and
-standard error says how many there are.
+line of the file names a thread; so it is in a FILE alone. Give strace -ttt -T,
+too: lines go in the order in which their calls act, those that map as they
+return, and munmap as it begins. Refused, with status 2, are several FILEs of
+which some call doesn't tell that with microseconds, or tells a time before that
+of a line above it: where it belongs isn't known. Times of strace -t and -tt
+have no date, so midnight may be between two of them. Calls of two threads that
+overlap and change the same pages may have acted in another order. Lines that
+say nothing, before the first time of their file, come first, in the order of
+the FILEs, and standard error says how many there are.
 
 Refused, with status 2: a log that asks for nothing; one that doesn't say what
 was mapped when the process began, or how another process began, which may be a
@@ -199,8 +201,12 @@ Changed, since a trace has no such lines:
   brk            mmap or munmap of the pages between the heap's old end and
                  new; the first brk only says where the heap ends
   mremap         munmap and mmap, or one of them if it stays in place, or with
-                 MREMAP_DONTUNMAP two mmaps: the new pages may be read and
-                 written, and their bytes are zero
+                 MREMAP_DONTUNMAP mmaps: each part of the new pages has the
+                 rights, the sharing and the file that it had, and more pages
+                 are as the last was; bytes of private pages are lost. Before
+                 such an munmap is # moved ADDR LEN ADDR LEN
+  madvise        with MADV_DONTNEED, of pages that lines map: mmap of the
+                 private ones, as they were mapped
   a file         the first 16 files are files of the trace, by their paths, or
                  without -y by their descriptors. A mapping of another file, or
                  past a file's first 1048576 bytes, is one of zero bytes. What
@@ -219,7 +225,7 @@ Left out: calls that failed, other calls and events, other processes (fork, and
 clone without CLONE_THREAD), what a process did before execve, and all else
 that isn't read. Calls that change the address space and can't be kept are
 lost, and counted by their names: shmat and shmdt of memory whose size isn't
-known, madvise that drops bytes (MADV_DONTNEED, MADV_FREE, MADV_REMOVE),
+known, other madvise that drops bytes (MADV_FREE, MADV_REMOVE),
 remap_file_pages, mmap with MAP_GROWSDOWN or MAP_HUGETLB, userfaultfd,
 io_setup, io_destroy and map_shadow_stack. Standard error says how many lines
 became what, and each line is counted once.
@@ -243,12 +249,14 @@ the kernel answered; a mapping of a file is one of zero bytes. audit
 line is BEGIN END cC! REQ = REPLY. Then audit --overlapping --any-place judges
 it. With strace -ttt -T the numbers are nanoseconds, and else each line of the
 log has four. Standard error says which it is. brk and mremap are mmap and
-munmap. An mremap that moves a mapping is both, each in one half of its time.
+munmap, of pages rw-, since no verdict depends on rights. An mremap that moves a
+mapping is both, each in one half of its time.
 Failed calls are there where the mappings alone decide: EINVAL of munmap,
 mprotect and mmap of no file, and ENOMEM of mprotect. Left out are, besides
-what a trace leaves out, shmat, shmdt, and mprotect of pages that no line maps,
-as those that execve maps. With --maps the list's mappings come first. Several
-FILEs need strace -ttt -T. A message of strace's within a line is refused.
+what a trace leaves out, shmat, shmdt, madvise, and mprotect of pages that no
+line maps, as those that execve maps. With --maps the list's mappings come
+first. Several FILEs need strace -ttt -T. A message of strace's within a line is
+refused.
 
 A log with accesses is made and read so:
 

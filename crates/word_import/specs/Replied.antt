@@ -26,7 +26,7 @@ use Rattle.import_steps.specs.Counts.{counted, no_counts}
 use Rattle.import_steps.specs.Taking.{SoFar, anonymous}
 use Rattle.import_steps.specs.Texts.{asked_text, first_line}
 use Rattle.import_steps.specs.declared.counts.LineCounts.{LineCounts}
-use Rattle.import_steps.specs.declared.steps.TraceRequest.{TraceRequest}
+use Rattle.import_maps.specs.declared.steps.TraceRequest.{TraceRequest}
 use Rattle.import_steps.specs.declared.taking.Fate.{Fate}
 use Rattle.import_steps.specs.declared.taking.Fate.TheVariants.{Left}
 use Rattle.import_steps.specs.declared.taking.Reason.{Reason}

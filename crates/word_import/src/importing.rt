@@ -40,11 +40,7 @@ fn tell_count<E: Write>(count: u64, what: &str, errors: &mut E) {
 // Prints how many lines were changed, and how.
 fn tell_changed<E: Write>(counts: &LineCounts, errors: &mut E) {
     tell_count(counts.heap, "changed: brk, as mmap or munmap", errors);
-    tell_count(
-        counts.moves,
-        "changed: mremap, as munmap and mmap of zero bytes, rw-",
-        errors,
-    );
+    tell_count(counts.moves, "changed: mremap, as munmap and mmap", errors);
     tell_count(
         counts.files,
         "changed: a mapping of a file, as one of zero bytes",
@@ -54,6 +50,11 @@ fn tell_changed<E: Write>(counts: &LineCounts, errors: &mut E) {
     tell_count(
         counts.shared,
         "changed: shmat and shmdt, as mmap of a file and munmap",
+        errors,
+    );
+    tell_count(
+        counts.cleared,
+        "changed: madvise with MADV_DONTNEED, as mmap of the private pages",
         errors,
     );
 }
@@ -114,7 +115,7 @@ fn tell_left<E: Write>(counts: &LineCounts, errors: &mut E) {
     tell_count(counts.unread, "left out: in a form that isn't read", errors);
     tell_count(
         counts.unmapped,
-        "left out: mprotect of pages that no line maps",
+        "left out: mprotect or mremap of pages that no line maps",
         errors,
     );
     tell_lost(&counts.lost, errors);

@@ -1,6 +1,6 @@
 use Rattle.std.proofs.Common.{◌≡◌, ◌≤◌, ◌++◌, length}
 use Rattle.std.specs.List.{flat_map}
-use Rattle.import_steps.specs.Steps.{steps_kept, widths}
+use Rattle.import_maps.specs.Steps.{steps_kept, widths}
 use Rattle.import_steps.specs.Texts.{step_text}
 use Rattle.import_steps.proofs.writing.push_steps.Given as goal
 

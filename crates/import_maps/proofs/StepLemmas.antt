@@ -7,14 +7,14 @@ use Rattle.std.proofs.lemmas.Bool.Decides.{nat_tests}
 use Rattle.std.proofs.lemmas.List.{drop-append-le, length-drop, length-take-le}
 use Rattle.vm_base.specs.declared.requests.Request.{Request}
 use Rattle.vm_base.specs.declared.requests.Request.TheVariants as Asks
-use Rattle.import_steps.specs.Steps.{flag_bits, flags_of, head_of, is_name, kind_width, name_kept, prot_bits, prot_of, request_kept, shape_of}
-use Rattle.import_steps.specs.Steps.{shape_width, six_of, step_kept, steps_kept, widths}
-use Rattle.import_steps.specs.declared.names.Name.{Name}
-use Rattle.import_steps.specs.declared.steps.Head.{Head}
-use Rattle.import_steps.specs.declared.steps.Kind.{Kind}
-use Rattle.import_steps.specs.declared.steps.Kind.TheVariants.{Pages, Map, Unmap, Protect, Load, Store, Fetch}
-use Rattle.import_steps.specs.declared.steps.Shape.{Shape}
-use Rattle.import_steps.specs.declared.steps.TraceRequest.{TraceRequest}
+use Rattle.import_maps.specs.Steps.{flag_bits, flags_of, head_of, is_name, kind_width, name_kept, prot_bits, prot_of, request_kept, shape_of}
+use Rattle.import_maps.specs.Steps.{shape_width, six_of, step_kept, steps_kept, widths}
+use Rattle.import_maps.specs.declared.names.Name.{Name}
+use Rattle.import_maps.specs.declared.steps.Head.{Head}
+use Rattle.import_maps.specs.declared.steps.Kind.{Kind}
+use Rattle.import_maps.specs.declared.steps.Kind.TheVariants.{Pages, Map, Unmap, Protect, Load, Store, Fetch}
+use Rattle.import_maps.specs.declared.steps.Shape.{Shape}
+use Rattle.import_maps.specs.declared.steps.TraceRequest.{TraceRequest}
 use Rattle.vm_base.specs.declared.rights.Prot.{Prot}
 use Rattle.vm_base.specs.declared.requests.Flags.{Flags}
 
@@ -118,7 +118,7 @@ again_by core name (Asks.Load addr) false e = ap (λ m. step_by core m (Asks.Loa
 again_by core name (Asks.Store addr byte) false e = ap (λ m. step_by core m (Asks.Store addr byte)) (bare_name name e)
 again_by core name (Asks.Fetch addr) false e = ap (λ m. step_by core m (Asks.Fetch addr)) (bare_name name e)
 
-abbrev numbers_of : TraceRequest → List ℕ
+abbrev pub numbers_of : TraceRequest → List ℕ
 numbers_of s = take (shape_width (head_of s).shape) (six_of s.request s.name)
 
 kept_again : (s : TraceRequest) → step_kept (head_of s) (numbers_of s) ≡ s

@@ -1,8 +1,10 @@
 //! The requests of a trace, kept small: of each a head, and its numbers after those of the others.
-ghost use Rattle.std.specs.Prelude.{◌≡◌, ◌≤◌, ◌<◌, ◌∷◌, length, slice_index_or};
-ghost use Rattle.import_steps.specs.Steps.{bit, flag_bits, flags_of, is_name, kind_of_map, kind_width, name_kept, prot_bits, prot_of, request_kept, shape_of, shape_width, six_of, steps_kept, widths};
+ghost use Rattle.std.specs.Prelude.{◌≡◌, ◌≤◌, ◌<◌, ◌∷◌, IfOk, length, slice_index_or};
+ghost use Rattle.import_maps.specs.Ranges.{changed_all};
+ghost use Rattle.import_maps.specs.Steps.{bit, flag_bits, flags_of, is_name, kind_of_map, kind_width, name_kept, prot_bits, prot_of, request_kept, shape_of, shape_width, six_of, steps_kept, widths};
 
 use crate::names::{NO_NAME, Name};
+use crate::ranges::{MappedRange, changed, parts_of};
 use std::alloc::{AllocError, Global};
 use std::marker::Model;
 use vm_base::{CoreId, Flags, Prot, Request};
@@ -20,7 +22,7 @@ pub struct TraceRequest {
 
 /// What a request asks for, and so which numbers are kept of it.
 #[derive(Clone, Copy)]
-pub(crate) enum Kind {
+pub enum Kind {
     /// `mmap` of file 0 from its start, or of no file: address and length.
     Pages,
     /// `mmap`: address, length, file and offset.
@@ -39,7 +41,7 @@ pub(crate) enum Kind {
 
 /// What is kept of a request, but its core and its numbers.
 #[derive(Clone, Copy)]
-pub(crate) struct Shape {
+pub struct Shape {
     kind: Kind,
     // Whether it has a name. All numbers are kept then.
     named: bool,
@@ -51,7 +53,7 @@ pub(crate) struct Shape {
 
 /// A request without its numbers.
 #[derive(Clone, Copy)]
-pub(crate) struct Head {
+pub struct Head {
     core: CoreId,
     shape: Shape,
 }
@@ -61,18 +63,23 @@ pub(crate) struct Head {
 pub struct TraceRequests {
     heads: Vec<Head>,
     numbers: Vec<u64>,
+    // What is mapped after the first of them: after so many heads, and so many numbers.
+    ranges: Vec<MappedRange>,
+    seen: usize,
+    behind: usize,
 }
 
 impl Model for TraceRequests {
-    ghost use Rattle.std.specs.Prelude.{◌≡◌, List, length};
-    ghost use Rattle.import_steps.specs.Steps.{steps_kept, widths};
-    ghost use Rattle.import_steps.specs.declared.steps.TraceRequest.{TraceRequest};
+    ghost use Rattle.std.specs.Prelude.{List};
+    ghost use Rattle.import_maps.specs.Kept.{AreKept};
+    ghost use Rattle.import_maps.specs.Steps.{steps_kept};
+    ghost use Rattle.import_maps.specs.declared.steps.TraceRequest.{TraceRequest};
 
     ghost Value = { List TraceRequest };
 
     ghost view = { λ s. steps_kept s.heads.items s.numbers.items };
 
-    ghost invariant = { λ s. length s.numbers.items ≡ widths s.heads.items };
+    ghost invariant = { λ s. AreKept s.heads.items s.numbers.items s.seen s.behind s.ranges.items };
 }
 
 // The bit at this place, where it is set.
@@ -83,8 +90,8 @@ fn bit(is_set: bool, place: u8) -> u8
     if is_set { place } else { 0 }
 }
 
-// Rights as bits.
-fn prot_bits(prot: Prot) -> u8
+/// Rights as bits.
+pub fn prot_bits(prot: Prot) -> u8
     ensures { result ≡ prot_bits prot }
 {
     bit(prot.read, 1) + bit(prot.write, 2) + bit(prot.exec, 4)
@@ -101,8 +108,8 @@ fn prot_of(bits: u8) -> Prot
     }
 }
 
-// Flags as bits.
-fn flag_bits(flags: Flags) -> u8
+/// Flags as bits.
+pub fn flag_bits(flags: Flags) -> u8
     ensures { result ≡ flag_bits flags }
 {
     bit(flags.private, 1) + bit(flags.shared, 2) + bit(flags.fixed, 4) + bit(flags.anon, 8)
@@ -296,7 +303,7 @@ fn request_of(shape: Shape, numbers: &[u64]) -> Request
 
 /// The first of some requests, and what the others have.
 #[tactic(auto, using(crate::proofs::StepLemmas::steps_front, crate::proofs::StepLemmas::widths_front))]
-pub(crate) fn front_step<'a>(
+pub fn front_step<'a>(
     heads: &'a [Head],
     numbers: &'a [u64],
 ) -> (TraceRequest, &'a [Head], &'a [u64])
@@ -320,9 +327,32 @@ pub(crate) fn front_step<'a>(
     (step, later, behind)
 }
 
+// What is mapped after these requests, where these ranges were before.
+fn changed_by_all(
+    alloc: Global,
+    ranges: &[MappedRange],
+    heads: &[Head],
+    numbers: &[u64],
+) -> Result<Vec<MappedRange>, AllocError>
+    requires whole { widths heads.now ≤ length numbers.now }
+    ensures { IfOk result (λ all. all.items ≡ changed_all ranges.now (steps_kept heads.now numbers.now)) }
+{
+    let mut all = Vec::from_slice(alloc, ranges)?;
+    let mut heads = heads;
+    let mut numbers = numbers;
+    'steps: while !heads.is_empty() {
+        let (step, later, behind) = front_step(heads, numbers);
+        all = changed(alloc, all, step)?;
+        heads = later;
+        numbers = behind;
+    }
+    Ok(all)
+}
+
 impl TraceRequests {
     ghost use Rattle.std.specs.Prelude.{◌≡◌, ◌≤◌, ◌∷◌, ◌++◌, [], IfOk, OnErr, OnOk, length};
-    ghost use Rattle.import_steps.specs.Steps.{steps_kept, widths};
+    ghost use Rattle.import_maps.specs.Ranges.{parts_of, ranges_of};
+    ghost use Rattle.import_maps.specs.Steps.{steps_kept, widths};
 
     /// No request.
     pub fn new(alloc: Global) -> TraceRequests
@@ -331,11 +361,14 @@ impl TraceRequests {
         TraceRequests {
             heads: Vec::new(alloc),
             numbers: Vec::new(alloc),
+            ranges: Vec::new(alloc),
+            seen: 0,
+            behind: 0,
         }
     }
 
     /// Adds a request. Where there is no memory they stay as they are.
-    #[tactic(auto, using(crate::proofs::StepLemmas::steps_push, crate::proofs::StepLemmas::widths_push))]
+    #[tactic(auto, using(crate::proofs::StepLemmas::steps_push))]
     pub fn push(&mut self, step: TraceRequest) -> Result<(), AllocError>
         ensures ok { OnOk result (self.new ≡ self.old ++ step ∷ []) }
         ensures err { OnErr result (self.new ≡ self.old) }
@@ -367,7 +400,7 @@ impl TraceRequests {
     }
 
     /// The heads and the numbers.
-    pub(crate) fn parts(&self) -> (&[Head], &[u64])
+    pub fn parts(&self) -> (&[Head], &[u64])
         ensures steps { self.now ≡ steps_kept result.0.now result.1.now }
         ensures whole { widths result.0.now ≤ length result.1.now }
     {
@@ -395,6 +428,33 @@ impl TraceRequests {
     {
         let heads = Vec::from_slice(alloc, self.heads.as_slice())?;
         let numbers = Vec::from_slice(alloc, self.numbers.as_slice())?;
-        Ok(TraceRequests { heads, numbers })
+        Ok(TraceRequests {
+            heads,
+            numbers,
+            ranges: Vec::new(alloc),
+            seen: 0,
+            behind: 0,
+        })
+    }
+
+    /// What they map of the addresses from one on, up to another.
+    #[tactic(auto, using(crate::proofs::KeptLemmas::kept_whole, crate::proofs::KeptLemmas::kept_rest))]
+    pub fn parts_mapped(
+        &mut self,
+        alloc: Global,
+        from: u64,
+        end: u64,
+    ) -> Result<Vec<MappedRange>, AllocError>
+        ensures same { self.new ≡ self.old }
+        ensures value { IfOk result (λ all. all.items ≡ parts_of from end (ranges_of self.old)) }
+    {
+        let (_, heads) = self.heads.as_slice().split_at(self.seen);
+        let (_, numbers) = self.numbers.as_slice().split_at(self.behind);
+        let ranges = changed_by_all(alloc, self.ranges.as_slice(), heads, numbers)?;
+        let parts = parts_of(alloc, ranges.as_slice(), from, end);
+        self.ranges = ranges;
+        self.seen = self.heads.len();
+        self.behind = self.numbers.len();
+        parts
     }
 }

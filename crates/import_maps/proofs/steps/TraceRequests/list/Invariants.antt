@@ -1,6 +1,6 @@
 use Rattle.std.proofs.Common.{◌≡◌, ◌≤◌, ◌++◌, length}
-use Rattle.import_steps.specs.Steps.{steps_kept, widths}
-use Rattle.import_steps.proofs.steps.TraceRequests.list.Given as goal
+use Rattle.import_maps.specs.Steps.{steps_kept, widths}
+use Rattle.import_maps.proofs.steps.TraceRequests.list.Given as goal
 
 -- what was listed, and the others
 abbrev pub invariant-steps : goal.invariant-steps

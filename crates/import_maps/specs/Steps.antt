@@ -4,12 +4,12 @@ use Rattle.vm_base.specs.declared.rights.Prot.{Prot}
 use Rattle.vm_base.specs.declared.requests.Flags.{Flags}
 use Rattle.vm_base.specs.declared.requests.Request.{Request}
 use Rattle.vm_base.specs.declared.requests.Request.TheVariants as Asks
-use Rattle.import_steps.specs.declared.names.Name.{Name}
-use Rattle.import_steps.specs.declared.steps.Head.{Head}
-use Rattle.import_steps.specs.declared.steps.Kind.{Kind}
-use Rattle.import_steps.specs.declared.steps.Kind.TheVariants.{Pages, Map, Unmap, Protect, Load, Store, Fetch}
-use Rattle.import_steps.specs.declared.steps.Shape.{Shape}
-use Rattle.import_steps.specs.declared.steps.TraceRequest.{TraceRequest}
+use Rattle.import_maps.specs.declared.names.Name.{Name}
+use Rattle.import_maps.specs.declared.steps.Head.{Head}
+use Rattle.import_maps.specs.declared.steps.Kind.{Kind}
+use Rattle.import_maps.specs.declared.steps.Kind.TheVariants.{Pages, Map, Unmap, Protect, Load, Store, Fetch}
+use Rattle.import_maps.specs.declared.steps.Shape.{Shape}
+use Rattle.import_maps.specs.declared.steps.TraceRequest.{TraceRequest}
 
 -- ---- what is kept of a request
 
