@@ -1,5 +1,5 @@
 #!/usr/bin/env python3
-"""Records real programs with strace, with 28 sets of its options, stops each in the middle, and compares the pages that `radixvm import` and `radixvm maps`
+"""Records real programs with strace, with 29 sets of its options, stops each in the middle, and compares the pages that `radixvm import` and `radixvm maps`
 make of the log with those that the kernel lists then in /proc/PID/maps: of each process that lives then. Each is equal, refused (import's status isn't 0), or
 wrong, with status 0. Left out are the pages that no line of a log tells: those of the program's own file and of its loader, which execve maps, with the
 anonymous pages right after them; the kernel's own; and the stack, which grows by itself.
@@ -32,6 +32,7 @@ OPTIONS = [
     f"-o LOG -e {CALLS}",
     f"-tt -T -e {CALLS}",
     f"-ff -ttt -o LOG -e {CALLS}",
+    f"-ff -ttt -T -o LOG -e {CALLS}",
     f"-ff -tt -T -y -o LOG",
     f"-ff -o LOG -e {CALLS}",
     f"-f -r -o LOG -e {CALLS}",

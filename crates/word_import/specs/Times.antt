@@ -1,11 +1,11 @@
 -- When a line of strace was written, as its first words say.
 use Rattle.std.specs.Prelude.{ℕ, zero, suc, ◌+◌, ◌-◌, ◌*◌, ◌^◌, Bool, true, false, ◌&&◌, ◌||◌, List, [], ◌∷◌, Option, None, Some, if◌then◌else◌, ◌==◌, codes}
-use Rattle.std.specs.Prelude.{drop, length, min, nat_le, nat_lt}
+use Rattle.std.specs.Prelude.{length, min, nat_le, nat_lt}
 use Rattle.std.specs.Str.{bytes_eq}
 use Rattle.trace_text.specs.Words.{byte}
 use Rattle.trace_text.specs.Request.{◌>>=◌}
 use Rattle.import_forms.specs.Stamps.{is_time}
-use Rattle.import_forms.specs.Tokens.{Token, begins_by, front_token, split_at_last}
+use Rattle.import_forms.specs.Tokens.{Token, front_token, split_at_last}
 
 -- a decimal digit
 abbrev pub is_digit : ℕ → Bool
@@ -16,9 +16,9 @@ abbrev pub front_digits : List ℕ → ℕ
 front_digits [] = 0
 front_digits (x ∷ xs) = if is_digit x then front_digits xs + 1 else 0
 
--- a digit, or a sign that divides those of a time
+-- a digit, or the point between those of a time
 abbrev pub is_of_time : ℕ → Bool
-is_of_time x = is_digit x || (x == byte (codes ":")) || (x == byte (codes "."))
+is_of_time x = is_digit x || (x == byte (codes "."))
 
 abbrev pub are_of_time : List ℕ → Bool
 are_of_time [] = true
@@ -41,13 +41,12 @@ is_long (Some parts) = nat_le 6 (length parts.1)
 abbrev pub is_fine : Token → Bool
 is_fine token = is_long (split_at_last (byte (codes ".")) token)
 
--- A time of the day, `HH:MM:SS`, or the seconds since 1970, which have ten digits since 2001; both with microseconds or nanoseconds, since many
--- calls are of one second.
+-- The seconds since 1970, which have ten digits since 2001, with microseconds or nanoseconds, since many calls are of one second. A time of the
+-- day is none: midnight may have passed between two of those.
 abbrev pub is_moment : Token → Bool
-is_moment token = are_of_time token && is_fine token
-    && (nat_le 10 (front_digits token) || ((front_digits token == 2) && begins_by (codes ":") (drop (front_digits token) token)))
+is_moment token = are_of_time token && is_fine token && nat_le 10 (front_digits token)
 
--- The number that its digits spell. Times of one log have one form, so they are in the order of these.
+-- the number that its digits spell
 abbrev pub moment_named : Token → Option ℕ
 moment_named token = if is_moment token then Some (digits_from 0 token) else None
 
@@ -100,3 +99,10 @@ took_ns line = do
   words ← split_at_last (byte (codes " ")) line
   point ← split_at_last (byte (codes ".")) words.1
   if is_time words.1 then long_for (digits_from 0 words.1) (length point.1) else None
+
+-- when the call of a line ended
+unfoldable pub ended_ns : List ℕ → Option ℕ
+ended_ns line = do
+  began ← began_ns line
+  took ← took_ns line
+  Some (began + took)

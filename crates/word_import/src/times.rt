@@ -1,10 +1,10 @@
 //! When a line of strace was written, as its first words say.
 ghost use Rattle.std.specs.Prelude.{◌≡◌, ◌*◌, ◌<◌, ◌≤◌, ◌^◌, IfSome, length};
-ghost use Rattle.word_import.specs.Times.{are_of_time, began_ns, digits_from, front_digits, goes_before, is_digit, is_fine, is_moment, is_of_time, long_for, moment_named, moment_of};
+ghost use Rattle.word_import.specs.Times.{are_of_time, began_ns, digits_from, ended_ns, front_digits, goes_before, is_digit, is_fine, is_moment, is_of_time, long_for, moment_named, moment_of};
 ghost use Rattle.word_import.specs.Times.{since_1970, took_ns, with_digit};
 
 use import_forms::stamps::is_time;
-use import_forms::tokens::{begins, next_token, split_last};
+use import_forms::tokens::{next_token, split_last};
 
 // Tells whether the byte is a decimal digit.
 fn is_digit(byte: u8) -> bool
@@ -25,11 +25,11 @@ fn front_digits(token: &[u8]) -> usize
     count
 }
 
-// Tells whether the byte is a digit, or a sign that divides those of a time.
+// Tells whether the byte is a digit, or the point between those of a time.
 fn is_of_time(byte: u8) -> bool
     ensures { result ≡ is_of_time byte }
 {
-    is_digit(byte) || byte == b':' || byte == b'.'
+    is_digit(byte) || byte == b'.'
 }
 
 // Tells whether all bytes are such.
@@ -84,15 +84,11 @@ fn is_fine(token: &[u8]) -> bool
     }
 }
 
-// Tells whether the token is a time of the day, or the seconds since 1970, with microseconds or nanoseconds.
+// Tells whether the token is the seconds since 1970, with microseconds or nanoseconds.
 fn is_moment(token: &[u8]) -> bool
     ensures { result ≡ is_moment token.now }
 {
-    let count = front_digits(token);
-    let (_, behind) = token.split_at(count);
-    are_of_time(token)
-        && is_fine(token)
-        && (count >= 10 || count == 2 && begins(behind, b":".as_slice()))
+    are_of_time(token) && is_fine(token) && front_digits(token) >= 10
 }
 
 // The number that the digits of a time spell.
@@ -113,7 +109,7 @@ fn goes_before(token: &[u8]) -> bool
     front_digits(token) >= 1 || token == b"pid".as_slice()
 }
 
-/// The time that a line tells before its call, as the number that its digits spell; `None` where it tells none.
+/// The time since 1970 that a line tells before its call, as the number that its digits spell; `None` where it tells none.
 pub fn moment_of(line: &[u8]) -> Option<u64>
     ensures { result ≡ moment_of line.now }
 {
@@ -188,4 +184,14 @@ pub fn took_ns(line: &[u8]) -> Option<u64>
     } else {
         None
     }
+}
+
+/// When the call of a line ended, in nanoseconds since 1970, where the line tells when it began and how long it took.
+#[tactic(auto, unfolding(crate::specs::Times::ended_ns))]
+pub fn ended_ns(line: &[u8]) -> Option<u64>
+    ensures { result ≡ ended_ns line.now }
+{
+    let began = began_ns(line)?;
+    let took = took_ns(line)?;
+    Some(began + took)
 }
