@@ -3,7 +3,7 @@ ghost use Rattle.std.specs.Prelude.{◌≡◌, ◌⊎◌, ◌++◌, ◌<◌, ◌
 ghost use Rattle.std.specs.List.{flat_map};
 ghost use Rattle.import_lines.specs.LogLines.{IsRead};
 ghost use Rattle.import_log.specs.Entries.{total as entries_total};
-ghost use Rattle.import_log.specs.Imported.{chosen_all, import_all};
+ghost use Rattle.import_log.specs.Imported.{chosen_all, ending_all, import_all, processes_all};
 ghost use Rattle.import_log.specs.Mapped.{TellsMaps};
 ghost use Rattle.import_log.specs.Starting.{start_of};
 ghost use Rattle.import_steps.specs.Counts.{total};
@@ -24,11 +24,13 @@ use import_lines::log_lines::StraceLog;
 use import_lines::made::all_makings;
 use import_lines::reading::hear_text;
 use import_lines::threads::ThreadLines;
+use import_log::entries::Entries;
 use import_log::import::{Ending, Refusal, Report, import_lines};
 use import_log::mapped::MapsReport;
 use import_log::owned::{OwnedLines, own_lines};
 use import_log::processes::Choice;
 use import_log::starting::{Start, read_list};
+use import_steps::counts::LineCounts;
 use import_steps::meter::Meter;
 use import_steps::taking::Taken;
 use import_steps::writing::{FRAMES, push_asked, put_first};
@@ -272,6 +274,65 @@ fn write_ended(alloc: Global, ending: Ending, replies: &Replies) -> Result<Vec<u
     }
 }
 
+// The calls with their replies of lines with these texts, and what their import says.
+fn reply_owned<'a, M: Meter>(
+    alloc: Global,
+    start: &Taken,
+    choice: Choice,
+    raw: &[LogLine<'a>],
+    owned: &OwnedLines,
+    unread: &[u8],
+    meter: &mut M,
+) -> Result<(RepliedLog, Report), AllocError>
+    requires texts { is_broken (map line_text raw.now) ≡ false → AreTexts (map line_text raw.now) owned.now.lines }
+    ensures value { IfOk result (λ r. (replied_so_far r.0.replies, r.0.counts)
+        ≡ replies_or_none (map line_text raw.now) (so_far start.now) choice owned.now.lines) }
+    ensures ending { IfOk result (λ r. r.1.ending ≡ ending_all owned.now.unclear (so_far start.now) choice owned.now.lines) }
+    ensures processes { IfOk result (λ r. r.1.processes.items ≡ processes_all choice.joined owned.now.lines) }
+    ensures process { IfOk result (λ r. r.1.process ≡ chosen_all choice owned.now.lines) }
+    ensures total { IfOk result (λ r. total r.0.counts ≡ length owned.now.lines) }
+    ensures few { IfOk result (λ r. total r.0.counts < 2 ^ 64) }
+{
+    let lines = &owned.lines;
+    let (taken, report) = import_lines(alloc, start, unread, lines, owned.unclear, choice, meter)?;
+    drop(taken);
+    match reply_any(alloc, start, choice, raw, lines, &report, meter) {
+        Ok(replied) => Ok((replied, report)),
+        Err(fault) => {
+            drop(report);
+            Err(fault)
+        }
+    }
+}
+
+// What is said about a list and a log, of which an import says this, but for how it ends and how many lines became what.
+fn told_of(entries: Entries, report: Report, counts: LineCounts, ending: Ending) -> MapsReport
+    ensures entries { result.entries ≡ entries }
+    ensures ending { result.report.ending ≡ ending }
+    ensures counts { result.report.counts ≡ counts }
+    ensures processes { result.report.processes.items ≡ report.processes.items }
+    ensures process { result.report.process ≡ report.process }
+{
+    let Report {
+        processes,
+        programs,
+        process,
+        unread,
+        ..
+    } = report;
+    MapsReport {
+        entries,
+        report: Report {
+            ending,
+            counts,
+            processes,
+            programs,
+            process,
+            unread,
+        },
+    }
+}
+
 // The replies of lines with these texts, and what is said about that.
 fn report_lines<'a, M: Meter>(
     alloc: Global,
@@ -289,50 +350,14 @@ fn report_lines<'a, M: Meter>(
     ensures entries { IfOk result (λ r. r.1.told.entries ≡ start.now.entries) }
     ensures few { IfOk result (λ r. total r.1.told.report.counts < 2 ^ 64) }
 {
-    let (taken, report) = import_lines(
-        alloc,
-        &start.taken,
-        unread,
-        &owned.lines,
-        owned.unclear,
-        choice,
-        meter,
-    )?;
-    drop(taken);
-    let replied = reply_any(
-        alloc,
-        &start.taken,
-        choice,
-        raw,
-        &owned.lines,
-        &report,
-        meter,
-    )?;
+    let (replied, report) = reply_owned(alloc, &start.taken, choice, raw, owned, unread, meter)?;
     let calls = replied.replies.calls.as_slice();
     let count = calls.len();
     let clock = clock_of(calls);
     let late = several && !is_timed(clock);
     let ending = ending_replied(is_broken(raw), late, report.ending);
     let text = write_ended(alloc, ending, &replied.replies)?;
-    let Report {
-        processes,
-        programs,
-        process,
-        unread,
-        ..
-    } = report;
-    let report = Report {
-        ending,
-        counts: replied.counts,
-        processes,
-        programs,
-        process,
-        unread,
-    };
-    let told = MapsReport {
-        entries: start.entries,
-        report,
-    };
+    let told = told_of(start.entries, report, replied.counts, ending);
     Ok((
         text,
         RepliesReport {
