@@ -137,7 +137,7 @@ fn refuse_order<E: Write>(lines: u64, errors: &mut E) -> u8
 {
     let _ = writeln!(
         errors,
-        "radixvm: several FILEs, and {lines} lines tell no time, or one before that of the line above: record with strace -ff -ttt -o FILE"
+        "radixvm: several FILEs, and {lines} of their lines don't say when their call took effect, or go back in time: record with strace -ff -ttt -T -o FILE"
     );
     2
 }
