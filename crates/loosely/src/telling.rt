@@ -31,12 +31,10 @@ pub struct Judged<A: Allocator> {
 
 /// How calls are judged.
 #[derive(Clone, Copy)]
-pub struct Manner<'a> {
+pub struct Manner {
     /// A mapping without `MAP_FIXED` may have any place.
     pub any_place: bool,
-    /// How an order is come by.
-    pub by: By<'a>,
-    /// Whether its text is wanted.
+    /// Whether the text of the order is wanted.
     pub is_wanted: bool,
     /// Whether nothing but one moment for each call is asked for.
     pub is_alone: bool,
@@ -66,7 +64,8 @@ fn judge<M: SlotMap + Drop, A: Allocator + Clone + Drop>(
     alloc: &A,
     maps: Maps<M>,
     text: &[u8],
-    manner: Manner<'_>,
+    manner: Manner,
+    by: By<'_>,
 ) -> Result<Judged<A>, HistoryFault>
     requires plain { IsNew (M.slots maps.plain) }
     requires kernel { IsNew (M.slots maps.kernel) }
@@ -79,14 +78,7 @@ fn judge<M: SlotMap + Drop, A: Allocator + Clone + Drop>(
     ensures err { IfErr result (λ f. IsAtFault (lines_of text.now) f) }
 {
     let any_place = manner.any_place;
-    let ruled = match judge_text(
-        alloc,
-        maps.plain,
-        text,
-        any_place,
-        manner.by,
-        manner.is_wanted,
-    ) {
+    let ruled = match judge_text(alloc, maps.plain, text, any_place, by, manner.is_wanted) {
         Ok(ruled) => ruled,
         Err(fault) => return Err(fault),
     };
@@ -126,7 +118,8 @@ fn judge_out<M: SlotMap + Drop, A: Allocator + Clone + Drop, W: Sink>(
     maps: Maps<M>,
     text: &[u8],
     writer: &mut W,
-    manner: Manner<'_>,
+    manner: Manner,
+    by: By<'_>,
 ) -> Result<Judged<A>, HistoryFault>
     requires plain { IsNew (M.slots maps.plain) }
     requires kernel { IsNew (M.slots maps.kernel) }
@@ -137,7 +130,7 @@ fn judge_out<M: SlotMap + Drop, A: Allocator + Clone + Drop, W: Sink>(
     ensures write { result ≡ Err (HistoryFault.Io IoFault.WriteFailed) → W.failed writer.new ≡ true }
     ensures kept { (result ≡ Err (HistoryFault.Io IoFault.WriteFailed)) ⊎ (W.failed writer.new ≡ W.failed writer.old) }
 {
-    let judged = match judge(&alloc, maps, text, manner) {
+    let judged = match judge(&alloc, maps, text, manner, by) {
         Ok(judged) => judged,
         Err(fault) => return Err(fault),
     };
@@ -162,7 +155,8 @@ pub fn judge_calls<M: SlotMap + Drop, A: Allocator + Clone + Drop, S: Source, W:
     maps: Maps<M>,
     reader: &mut S,
     writer: &mut W,
-    manner: Manner<'_>,
+    manner: Manner,
+    by: By<'_>,
 ) -> Result<Judged<A>, HistoryFault>
     requires plain { IsNew (M.slots maps.plain) }
     requires kernel { IsNew (M.slots maps.kernel) }
@@ -176,7 +170,7 @@ pub fn judge_calls<M: SlotMap + Drop, A: Allocator + Clone + Drop, S: Source, W:
         return Err(HistoryFault::Io(IoFault::NoMemory));
     };
     match read_all(for_text, reader) {
-        Ok(text) => judge_out(alloc, maps, text.as_slice(), writer, manner),
+        Ok(text) => judge_out(alloc, maps, text.as_slice(), writer, manner, by),
         Err(fault) => Err(HistoryFault::Io(fault)),
     }
 }

@@ -158,7 +158,8 @@ fn ended_besides(ruling: Ruling, besides: Besides) -> Ended
 // Judges calls that overlap so.
 fn judge_so<S: Source, W: Sink>(
     alloc: Global,
-    manner: Manner<'_>,
+    manner: Manner,
+    by: By<'_>,
     reader: &mut S,
     out: &mut W,
     order: &mut Vec<u8>,
@@ -181,7 +182,7 @@ fn judge_so<S: Source, W: Sink>(
         kernel,
         moving,
     };
-    match judge_calls(alloc, maps, reader, out, manner) {
+    match judge_calls(alloc, maps, reader, out, manner, by) {
         Ok(judged) => {
             let ended = ended_besides(judged.ruled.ruling, judged.besides);
             *order = judged.ruled.order;
@@ -207,29 +208,23 @@ pub fn audit_overlapping<L: Source, S: Source, W: Sink>(
         (read_from S.Source reader.old reader.new) (written_to W.Sink out.old out.new) result.status }
     ensures within { result.status ≤ 5 }
 {
-    let any_place = overlaps.any_place;
-    let is_wanted = overlaps.is_wanted;
+    let manner = Manner {
+        any_place: overlaps.any_place,
+        is_wanted: overlaps.is_wanted,
+        is_alone,
+    };
     if !overlaps.is_given {
-        let by = By::Search;
-        let manner = Manner {
-            any_place,
-            by,
-            is_wanted,
-            is_alone,
-        };
-        return judge_so(alloc, manner, reader, out, order);
+        return judge_so(alloc, manner, By::Search, reader, out, order);
     }
     match read_all(alloc, list) {
-        Ok(given) => {
-            let by = By::Given(given.as_slice());
-            let manner = Manner {
-                any_place,
-                by,
-                is_wanted,
-                is_alone,
-            };
-            judge_so(alloc, manner, reader, out, order)
-        }
+        Ok(given) => judge_so(
+            alloc,
+            manner,
+            By::Given(given.as_slice()),
+            reader,
+            out,
+            order,
+        ),
         Err(fault) => refuse_history(HistoryFault::Io(fault)),
     }
 }
