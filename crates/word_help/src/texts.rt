@@ -171,8 +171,8 @@ each line is of the thread with the number after its file's last dot, if no
 line of the file names a thread; so it is in a FILE alone. Give strace -ttt -T,
 too: lines go in the order in which their calls act, those that map as they
 return, and munmap as it begins. Refused, with status 2, are several FILEs of
-which some call doesn't tell that with microseconds, or tells a time before that
-of a line above it: where it belongs isn't known. Times of strace -t and -tt
+which some call doesn't tell that with microseconds, or tells an earlier time
+than a line above it: where it belongs isn't known. Times of strace -t and -tt
 have no date, so midnight may be between two of them. Calls of two threads that
 overlap and change the same pages may have acted in another order. Lines that
 say nothing, before the first time of their file, come first, in the order of
@@ -249,14 +249,14 @@ the kernel answered; a mapping of a file is one of zero bytes. audit
 line is BEGIN END cC! REQ = REPLY. Then audit --overlapping --any-place judges
 it. With strace -ttt -T the numbers are nanoseconds, and else each line of the
 log has four. Standard error says which it is. brk and mremap are mmap and
-munmap, of pages rw-, since no verdict depends on rights. An mremap that moves a
-mapping is both, each in one half of its time.
+munmap, of pages rw-, since no verdict depends on rights. An mremap that moves
+a mapping is both, each in one half of its time.
 Failed calls are there where the mappings alone decide: EINVAL of munmap,
 mprotect and mmap of no file, and ENOMEM of mprotect. Left out are, besides
 what a trace leaves out, shmat, shmdt, madvise, and mprotect of pages that no
 line maps, as those that execve maps. With --maps the list's mappings come
-first. Several FILEs need strace -ttt -T. A message of strace's within a line is
-refused.
+first. Several FILEs need strace -ttt -T. A message of strace's within a line
+is refused.
 
 A log with accesses is made and read so:
 
