@@ -13,3 +13,19 @@ returns-in_default-clause-ends g c = (
   unmade _ c.args.manner.is_alone c.args.manner.any_place _,
   tells_want Io io_of io_back _ _ refl,
 )
+
+pub returns-in_default-new-clause-ends : goal.returns-in_default-new-clause-ends
+returns-in_default-new-clause-ends g c = (
+  Err (Io NoMemory),
+  c.refuse_history-in_default-new.ensures.value,
+  unmade _ c.args.manner.is_alone c.args.manner.any_place _,
+  tells_want Io io_of io_back _ _ refl,
+)
+
+pub returns-in_default-new-2-clause-ends : goal.returns-in_default-new-2-clause-ends
+returns-in_default-new-2-clause-ends g c = (
+  Err (Io NoMemory),
+  c.refuse_history-in_default-new-2.ensures.value,
+  unmade _ c.args.manner.is_alone c.args.manner.any_place _,
+  tells_want Io io_of io_back _ _ refl,
+)
