@@ -5,3 +5,5 @@ pub mod Owning
 pub mod Handled
 pub mod Returned
 pub mod Served
+pub mod Gaining
+pub mod Gotten

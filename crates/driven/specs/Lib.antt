@@ -3,3 +3,4 @@ pub mod Driving
 pub mod Reclaiming
 pub mod Duties
 pub mod Served
+pub mod Gotten

@@ -1,7 +1,7 @@
 //! A machine that C holds and that decides what real page tables may translate.
 //!
 //! - `telling`: steps of a core's call, and what they tell: the range that the core drops, and the frame that a page gets.
-//! - `touching`: a touch, which is made at once where the core's tables permit it.
+//! - `touching`: a touch, which is made at once where what it tells follows from its page before and after.
 //! - `driving`: touches, changes and takes, as numbers and structs of C; `reclaiming`: frames that nothing uses.
 //! - `laws`: calls that returned are a run of the law of hardware, where the caller does its duties.
 //!

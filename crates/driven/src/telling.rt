@@ -60,8 +60,8 @@ fn own_range(phase: Phase) -> Option<PageRange>
     }
 }
 
-// Where the bytes of a new frame of a page with this backing come from.
-fn source_at<M: SlotMap, A: Allocator + Clone, L: Ledger>(
+/// Where the bytes of a new frame of a page with this backing come from.
+pub(crate) fn source_at<M: SlotMap, A: Allocator + Clone, L: Ledger>(
     machine: &Machine<M, A, L>,
     back: Back,
 ) -> Origin
