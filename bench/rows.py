@@ -1,7 +1,8 @@
 #!/usr/bin/env python3
 """Runs the rows of crates/test_words/data on a built program, in seconds: crates/test_words/src/main.rt says how a row is written. Prints each row that
 comes to something else, and counts them all. Rows that want a terminal are left out: `rt ci` runs those too.
-It fails, too, where crates/test_words/args doesn't name each of these files, or stdout beside it doesn't count their rows.
+It fails, too, where crates/test_words/args doesn't name each of these files, stdout next to it doesn't count their rows, or a file doesn't begin with a
+comment.
 Usage: bench/rows.py PROGRAM [FILE.rows..]
 """
 import concurrent.futures
@@ -70,11 +71,13 @@ def wrong_of(program, name, row):
 
 
 def is_listed():
-    """Tells whether the program of the rows is asked for each file, and is to count its rows."""
+    """Tells whether the program of the rows is asked for each file, takes it, and is to count its rows."""
     files = sorted(DATA.glob("*.rows"))
     counts = [(path.name, path.read_bytes().count(b"\n==")) for path in files]
     counted = "".join(f"{name}: {count} rows\n" for name, count in counts)
     asked = (DATA.parent / "args").read_text().split()
+    if not all(path.read_bytes().startswith(b"#!") for path in files):
+        return False
     return asked == [path.name for path in files] and counted == (DATA.parent / "stdout").read_text()
 
 
@@ -90,7 +93,7 @@ def main():
         print(f"{name}: {words}\n  status {came.returncode}\n  out {came.stdout[:600]}\n  err {came.stderr[:600]}")
     print(f"{len(rows)} rows, {len(wrong)} wrong")
     if not is_listed():
-        print("crates/test_words: args or stdout isn't what data has")
+        print("crates/test_words: args or stdout isn't what data has, or a file of rows doesn't begin with #!")
     sys.exit(bool(wrong) or not is_listed())
 
 
