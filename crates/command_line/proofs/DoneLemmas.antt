@@ -94,11 +94,15 @@ pub other_work : {work : Work} {X : Type 0} → is_each work ≡ false → work 
 other_work other is = let bad : true ≡ false = sym (ap is_each is) ∙ other in absurd cc
 
 -- what was done has its output there, where no file is named for it
-pub ends_here : {Done : WrittenTo → ℕ → Type 0} {Saved : List ℕ → List ℕ → Type 0} {out : WrittenTo} {n : ℕ}
-    (o : Option (Bor (List ℕ))) → o ≡ None → Done out n → EndsIn Done Saved out n o
-ends_here {Done} {Saved} {out} {n} o e done = subst (λ a. EndsIn Done Saved out n a) (sym e) done
+pub ends_here : {Does : ReadFrom → ReadFrom → WrittenTo → ℕ → Type 0} {Listed Coming : Option (List ℕ) → Type 0}
+    {Saved : List ℕ → List ℕ → Type 0} {task : Command} {out : WrittenTo} {n : ℕ}
+    → (names : List (Bor (List ℕ))) → task.output ≡ None
+    → IsDone Does Listed Coming Saved task out n ⊎ IsLost task names out n
+    → EndsIn (λ o k. IsDone Does Listed Coming Saved task o k ⊎ IsLost task names o k) Saved out n task.output
+ends_here {Does} {Listed} {Coming} {Saved} {task} {out} {n} names e done =
+    subst (λ a. EndsIn (λ o k. IsDone Does Listed Coming Saved task o k ⊎ IsLost task names o k) Saved out n a) (sym e) done
 
 -- or in the file that is named for it
-pub ends_there : {Done : WrittenTo → ℕ → Type 0} {Saved : List ℕ → List ℕ → Type 0} {out : WrittenTo} {n : ℕ}
+pub ends_there : (Done : WrittenTo → ℕ → Type 0) (Saved : List ℕ → List ℕ → Type 0) (out : WrittenTo) (n : ℕ)
     (o : Option (Bor (List ℕ))) (name : Bor (List ℕ)) → o ≡ Some name → IsSilent out → Saves Done (Saved name.now) n → EndsIn Done Saved out n o
-ends_there {Done} {Saved} {out} {n} o name e silent saved = subst (λ a. EndsIn Done Saved out n a) (sym e) (silent, saved)
+ends_there Done Saved out n o name e silent saved = subst (λ a. EndsIn Done Saved out n a) (sym e) (silent, saved)
